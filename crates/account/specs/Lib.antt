@@ -1,0 +1,4 @@
+pub mod Account
+pub mod Asking
+pub mod Statement
+pub mod Runs
