@@ -1,14 +1,21 @@
 -- Laws of the demands on a source: each asks for its first byte, whether the source has it or not.
 use Prim.Native.Nat.{ℕ, suc}
 use mathlib.Core.List.{List, _∷_}
-use mathlib.Core.Path.{_≡_, refl}
+use mathlib.Core.Path.{_≡_, refl, ap}
 use lib.ListN.{length, getD}
 use lib.Dec.{ltb, eqb}
+use Rattle.streaming.specs.declared.Request.{Request}
 use Rattle.streaming.specs.declared.Fault.{Fault}
 use Rattle.streaming.specs.declared.Answer.{Answer}
 use Rattle.streaming.proofs.Choose.{in-both}
 use Rattle.account.specs.Account.{Account, askOf, demand}
 use Rattle.account.specs.Asking.{Turn, askByte, span, oneByOne, spell}
+
+-- equal demands are of one place and one length
+pub demand-same : {at left at′ left′ : ℕ} → demand at left ≡ demand at′ left′ → (at ≡ at′) × (left ≡ left′)
+demand-same {at} {left} {at′} {left′} e =
+    let r : _≡_ {A = Request} (record { offset = at; len = left }) (record { offset = at′; len = left′ }) = cc in
+    (ap (λ (x : Request). x .offset) r, ap (λ (x : Request). x .len) r)
 
 module _ (src : List ℕ) where
   pub askByte-asks : (at left : ℕ) (says : Answer) (rest : Account) → askOf (askByte src at left says rest) ≡ demand at left
