@@ -6,3 +6,4 @@ pub mod Does
 pub mod Stands
 pub mod Unique
 pub mod Refused
+pub mod Bounds
