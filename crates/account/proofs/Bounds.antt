@@ -4,7 +4,7 @@ use mathlib.Core.Bool.{Bool, true, false}
 use mathlib.Core.List.{List, [], _∷_}
 use mathlib.Core.Path.{_≡_, refl, sym, ap, _∙_, subst}
 use native.Mathlib.Omega.{arith}
-use lib.ListN.{length, length-take, length-drop}
+use lib.ListN.{length}
 use Rattle.streaming.specs.Choose.{if_then_else_}
 use Rattle.streaming.specs.declared.Fault.{Fault}
 use Rattle.streaming.specs.declared.Answer.{Answer}
@@ -14,6 +14,7 @@ use Rattle.account.specs.Statement.{Call, takes, after, part, Walker, Ho
 use Rattle.account.specs.Runs.{run, Past, Bounded}
 use Rattle.account.specs.Tidy.{Quiet, Joined, last, more, torn, Tidy, tidy-over, tidy-ask}
 use Rattle.account.proofs.Asking.{demand-same}
+use Rattle.account.proofs.Parts.{part-inside}
 use Rattle.account.proofs.Fronts.{tidy-passed}
 use Rattle.account.proofs.Calls.{Taken, taken, taking, after-passed, after-refused}
 use Rattle.account.proofs.Does.{Does, Fair, asks, does-after}
@@ -48,7 +49,7 @@ pieced (suc n) (tidy-ask p (torn {f = f}) t) at left e h i = record { fewer = om
 some-pieced : {src : List ℕ} (p : List ℕ) {a : Account} → Tidy src a → (at left : ℕ) → askOf a ≡ demand at left → 0 < length p → length p ≤ left
     → p ≡ part src at (length p) → Pieced (length p) a
 some-pieced [] t at left e h k o = absurd (omega arith)
-some-pieced (b ∷ bs) t at left e h k o = pieced (length bs) t at left e k (omega (arith, simp (length-take, length-drop) at (ap length o)))
+some-pieced (b ∷ bs) t at left e h k o = pieced (length bs) t at left e k (part-inside _ at (b ∷ bs) o h)
 
 -- ---- one call, and a run
 

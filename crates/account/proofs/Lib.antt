@@ -6,4 +6,6 @@ pub mod Does
 pub mod Stands
 pub mod Unique
 pub mod Refused
+pub mod Parts
 pub mod Bounds
+pub mod Carried
