@@ -9,3 +9,5 @@ pub mod Refused
 pub mod Parts
 pub mod Bounds
 pub mod Carried
+pub mod Onward
+pub mod Feeding
