@@ -11,3 +11,6 @@ pub mod Bounds
 pub mod Carried
 pub mod Onward
 pub mod Feeding
+pub mod Spans
+pub mod Spells
+pub mod Phases
