@@ -14,3 +14,4 @@ pub mod Feeding
 pub mod Spans
 pub mod Spells
 pub mod Phases
+pub mod Spelled

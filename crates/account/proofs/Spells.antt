@@ -20,7 +20,7 @@ use Rattle.account.proofs.Spans.{Lands, asks-byte}
 pub record Spelling (M : ByteMachine) (src : List ℕ) (at : ℕ) (ws : List ℕ) (f : Fault) (t : Turn) (mid gone : ℕ → M .State) : Type 0 where
   pub asking : (d : ℕ) → d < length ws → M .request (mid d) ≡ demand (at + d) (length ws - d)
   pub going : (d : ℕ) → suc d < length ws → getD src (at + d) 0 ≡ getD ws d 0 → M .bite (mid d) (getD src (at + d) 0) ≡ (framing, mid (suc d))
-  pub ending : (d : ℕ) → suc d ≡ length ws → getD src (at + d) 0 ≡ getD ws d 0 → Lands M src (M .bite (mid d) (getD src (at + d) 0)) t
+  pub ending : (d : ℕ) → suc d ≡ length ws → at + length ws ≤ length src → getD src (at + d) 0 ≡ getD ws d 0 → Lands M src (M .bite (mid d) (getD src (at + d) 0)) t
   pub tearing : (d : ℕ) → d < length ws → (getD src (at + d) 0 ≡ getD ws d 0 → ⊥) → M .bite (mid d) (getD src (at + d) 0) ≡ (faulted f, gone d)
   pub broke : (d : ℕ) → d < length ws → M .request (gone d) ≡ broken f
 
@@ -33,7 +33,7 @@ module _ {M : ByteMachine} {src : List ℕ} {at w : ℕ} {ws : List ℕ} {f : Fa
       record {
         asking = λ d h. p .asking (suc d) (omega arith) ∙ ap₂ demand (omega arith) (omega arith);
         going = λ d h e. rw suc-add (rw add-suc at (p .going (suc d) (omega arith) (rw add-suc (rw suc-add at e))));
-        ending = λ d h e. rw suc-add (rw add-suc at (p .ending (suc d) (omega arith) (rw add-suc (rw suc-add at e))));
+        ending = λ d h k e. rw suc-add (rw add-suc at (p .ending (suc d) (omega arith) (omega arith) (rw add-suc (rw suc-add at e))));
         tearing = λ d h e. rw suc-add (rw add-suc at (p .tearing (suc d) (omega arith) (rw add-suc (rw suc-add at e))));
         broke = λ d h. p .broke (suc d) (omega arith);
       }
@@ -52,7 +52,7 @@ module _ {M : ByteMachine} {src : List ℕ} where
   pub spells : (ws : List ℕ) (w : ℕ) {at : ℕ} {f : Fault} {t : Turn} {mid gone : ℕ → M .State} → Spelling M src at (w ∷ ws) f t mid gone
       → Onward M src (mid 0) (spell src at (w ∷ ws) f t)
   unfolding spell
-  spells [] w p = opens p λ l e. let z = rw add-zero at (p .ending 0 refl (rw add-zero e)) in byte (first-asks p) l (z .same) last (z .on)
+  spells [] w p = opens p λ l e. let z = rw add-zero at (p .ending 0 refl (omega arith) (rw add-zero e)) in byte (first-asks p) l (z .same) last (z .on)
   spells (v ∷ ws) w {at} {f} {t} p =
       opens p λ l e.
       byte (first-asks p) l (rw add-zero at (p .going 0 (omega arith) (rw add-zero e))) (more tt (spell-asks src (suc at) v ws f t)) (spells ws v (others p))
