@@ -6,7 +6,7 @@ use mathlib.Core.Path.{_≡_, refl}
 use lib.ListN.{length}
 use Rattle.streaming.specs.Choose.{if_then_else_}
 use Rattle.account.specs.Account.{Account, askOf, passed}
-use Rattle.account.specs.Statement.{Call, takes, after, answerOf, part, Walker, Honest, Asks, Follows}
+use Rattle.account.specs.Statement.{Call, takes, after, answerOf, part, Walker, Honest, Asks, Follows, Meets}
 use Rattle.account.specs.Runs.{run, bytes}
 use Rattle.account.proofs.Fronts.{passed-passed}
 use Rattle.account.proofs.Calls.{taking, after-passed, after-refused}
@@ -35,3 +35,9 @@ module _ {H : Type 0} (W : Walker H) where
   does-run (c ∷ cs) st a d h =
       rw (asks st a d .request, ← passed-passed (taking (askOf a) c) (bytes W (W .feed st c .1) cs) a, ← after-passed a c)
       (does-run cs (W .feed st c .1) (after a c) (does-after st a d c (h .0)) (h .1))
+
+-- so does a walker that meets some rules, from its start, with their account
+pub meets-does : {H : Type 0} (Of : H → List ℕ → Type 0) (rules : H → List ℕ → Account) (W : Walker H) → Meets Of rules W
+    → (h : H) (src : List ℕ) → Of h src → Does W src (W .start h) (rules h src)
+unfolding Meets
+meets-does Of rules W meets = meets

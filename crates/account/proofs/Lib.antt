@@ -15,3 +15,4 @@ pub mod Spans
 pub mod Spells
 pub mod Phases
 pub mod Spelled
+pub mod Main

@@ -35,6 +35,9 @@ module _ {H : Type 0} (W : Walker H) {src : List ℕ} where
     pub begins : (cs : List Call) → Honest W src st cs → committed W st cs ++ recordsIn (passed (bytes W st cs) a) ≡ recordsIn a
     begins cs h = rw (within cs h) (within-rest (bytes W st cs) a)
 
+    pub front : (cs : List Call) → Honest W src st cs → Front (committed W st cs) (recordsIn a)
+    front cs h = record { rest = recordsIn (passed (bytes W st cs) a); whole-is = begins cs h }
+
     -- (b) the call that takes a record's last byte commits it
     pub last-byte : (cs : List Call) → Honest W src st cs → (c : Call) → Fair W src (run W st cs) c
         → committedIn (W .feed (run W st cs) c .0) ≡ if takes (W .request (run W st cs)) c then committedIn (saysAt (bytes W st cs + length (c .piece)) a) else []
