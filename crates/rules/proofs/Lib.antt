@@ -1,0 +1,14 @@
+pub mod EveryRule
+pub mod Table
+pub mod Cases
+pub mod EasyToGetWrong
+pub mod Limits
+pub mod Header
+pub mod Section
+pub mod Entry
+pub mod Object
+pub mod Map
+pub mod Told
+pub mod AgreeSection
+pub mod AgreeObject
+pub mod Agree

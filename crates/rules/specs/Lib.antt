@@ -1,0 +1,11 @@
+pub mod Bytes
+pub mod Header
+pub mod Source
+pub mod Section
+pub mod Entry
+pub mod Prologue
+pub mod Object
+pub mod Map
+pub mod Rules
+pub mod PlainList
+pub mod LastByte

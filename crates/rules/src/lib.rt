@@ -1,0 +1,1 @@
+// The rules of the format: what a header and a whole source give. There is no code here: the definitions stand in specs/.
