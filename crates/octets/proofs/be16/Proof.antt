@@ -1,8 +1,8 @@
 -- `be16` meets its contract.
-use Rattle.endian.specs.Endian.{bigEndianFrom}
+use Rattle.octets.specs.Octets.{bigEndian}
 use borrow.Author.Needs.{needs}
-use Rattle.endian.proofs.be16.Statement.{statement}
-use Rattle.endian.proofs.be16.Tie as tie
+use Rattle.octets.proofs.be16.Statement.{statement}
+use Rattle.octets.proofs.be16.Tie as tie
 
 wide-requires : tie.Need-wide-requires
 wide-requires c κs = search needs
@@ -20,7 +20,7 @@ cast-result : tie.Need-cast-result
 cast-result c = search needs
 
 returns : tie.Need-returns
-unfolding bigEndianFrom
+unfolding bigEndian
 returns c = search needs
 
 pub be16-spec : {M : Type 1} → statement M

@@ -4,10 +4,10 @@ use mathlib.Core.Path.{_≡_, sym, _∙_}
 use native.Mathlib.Omega.{arith}
 use borrow.Author.Needs.{needs}
 use lib.ListN.{take, drop}
-use Rattle.endian.specs.Endian.{littleEndian}
-use Rattle.endian.proofs.Laws.{next-lt, seven-lt, little-none, little-next}
-use Rattle.endian.proofs.number_at.Statement.{statement}
-use Rattle.endian.proofs.number_at.Tie as tie
+use Rattle.octets.specs.Octets.{littleEndian}
+use Rattle.octets.proofs.Laws.{next-lt, seven-lt, little-none, little-next}
+use Rattle.octets.proofs.number_at.Statement.{statement}
+use Rattle.octets.proofs.number_at.Tie as tie
 
 abbrev Inv-loop : tie.InvT-loop
 Inv-loop s at n value₀ i₀ value i = (i ≤ n) × (value ≡ littleEndian (drop i (take n (drop at s)))) × (value < 256 ^ (n - i))

@@ -1,8 +1,8 @@
 -- `le32` meets its contract.
-use Rattle.endian.specs.Endian.{littleEndian}
+use Rattle.octets.specs.Octets.{littleEndian}
 use borrow.Author.Needs.{needs}
-use Rattle.endian.proofs.le32.Statement.{statement}
-use Rattle.endian.proofs.le32.Tie as tie
+use Rattle.octets.proofs.le32.Statement.{statement}
+use Rattle.octets.proofs.le32.Tie as tie
 
 wide-requires : tie.Need-wide-requires
 wide-requires c κs = search needs

@@ -6,7 +6,7 @@ use native.Mathlib.Nat.{pow-succ', pow-le-pow-right}
 use native.Mathlib.Omega.{arith}
 use lib.ListN.{length, getD, take, drop, length-take, length-drop, drop-of-length-le}
 use lib.Seq.{drop-cons, getD-drop, getD-take}
-use Rattle.endian.specs.Endian.{littleEndian}
+use Rattle.octets.specs.Octets.{littleEndian}
 
 -- n bytes make a number below 256^n
 pub little-lt : (s : List ℕ) → ((i : ℕ) → getD s i 0 < 256) → littleEndian s < 256 ^ length s

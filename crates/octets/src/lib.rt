@@ -1,9 +1,11 @@
-// The numbers that bytes make, lowest byte first or highest byte first.
+// Bytes: the numbers that they make, lowest byte first or highest byte first; whether two slices are the same; and copies into a slice.
 ghost use mathlib.Core.Path.{_≡_};
 ghost use mathlib.Core.List.{[], _∷_};
 ghost use Prim.Native.Nat.{_+_, _≤_, _<_, _^_};
 ghost use lib.ListN.{length, take, drop};
-ghost use Rattle.endian.specs.Endian.{littleEndian, bigEndian};
+ghost use lib.Seq.{sets};
+ghost use Rattle.octets.specs.Octets.{littleEndian, bigEndian};
+ghost use Rattle.octets.specs.Octets.{same as Octets·same};
 
 fn wide(b: u8) -> u64
     ensures { λ r. ⌜ (r ≡ b) × (r < 256) ⌝ }
@@ -41,4 +43,33 @@ pub fn number_at(s: &[u8], at: usize, n: usize) -> u64
         value = 256 * value + wide(s[at + i]);
     }
     value
+}
+
+// Whether two slices have the same bytes.
+pub fn same(a: &[u8], b: &[u8]) -> bool
+    ensures { λ r. ⌜ r ≡ Octets·same (now (a .entry)) (now (b .entry)) ⌝ }
+{
+    if a.len() != b.len() {
+        return false;
+    }
+    let mut i = 0;
+    while i < a.len() {
+        if a[i] != b[i] {
+            return false;
+        }
+        i += 1;
+    }
+    true
+}
+
+// The bytes of src in place of those of dst from a place on.
+pub fn copy_in(dst: &mut [u8], at: usize, src: &[u8])
+    requires { ⌜ at + length (now src) ≤ length (now dst) ⌝ }
+    ensures { λ _. ⌜ now (dst .exit) ≡ sets (now (dst .entry)) at (now (src .entry)) ⌝ }
+{
+    let mut i = 0;
+    while i < src.len() {
+        dst[at + i] = src[i];
+        i += 1;
+    }
 }
