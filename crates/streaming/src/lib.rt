@@ -169,3 +169,9 @@ pub struct FlatWalker {
     pub map: MapCursor,
     pub failure: Failure,
 }
+
+// What `feed` gives back: the answer, and the state to go on with. A refused offset or length gives the state back as it was.
+pub struct Fed {
+    pub answer: Answer,
+    pub state: FlatWalker,
+}
