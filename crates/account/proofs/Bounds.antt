@@ -9,14 +9,14 @@ use Rattle.streaming.specs.Choose.{if_then_else_}
 use Rattle.streaming.specs.declared.Fault.{Fault}
 use Rattle.streaming.specs.declared.Answer.{Answer}
 use Rattle.streaming.specs.declared.Answer.the-variants as answer
-use Rattle.account.specs.Account.{Account, ask, over, demand, broken, askOf, passed, bytesTaken, broughtBy, bytesAtMost}
+use Rattle.account.specs.Account.{Account, over, demand, broken, askOf, passed, bytesTaken, broughtBy, bytesAtMost}
 use Rattle.account.specs.Statement.{Call, takes, after, part, Walker, Honest}
 use Rattle.account.specs.Runs.{run, Past, Bounded}
-use Rattle.account.specs.Tidy.{Quiet, Joined, last, more, torn, Tidy, tidy-over, tidy-ask}
+use Rattle.account.specs.Tidy.{last, more, torn, Tidy, tidy-over, tidy-ask}
 use Rattle.account.proofs.Asking.{demand-same}
 use Rattle.account.proofs.Parts.{part-inside}
 use Rattle.account.proofs.Fronts.{tidy-passed}
-use Rattle.account.proofs.Calls.{Taken, taken, taking, after-passed, after-refused}
+use Rattle.account.proofs.Calls.{taken, taking, after-passed}
 use Rattle.account.proofs.Does.{Does, Fair, asks, does-after}
 use Rattle.account.proofs.Refused.{repeats}
 

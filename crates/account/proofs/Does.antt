@@ -1,15 +1,14 @@
 -- A walker that follows an account in every run over a source follows, behind some calls, what is left of the account.
 use Prim.Native.Nat.{ℕ}
-use mathlib.Core.Bool.{true, false}
+use mathlib.Core.Bool.{true}
 use mathlib.Core.List.{List, [], _∷_}
-use mathlib.Core.Path.{_≡_, refl}
+use mathlib.Core.Path.{_≡_}
 use lib.ListN.{length}
-use Rattle.streaming.specs.Choose.{if_then_else_}
 use Rattle.account.specs.Account.{Account, askOf, passed}
 use Rattle.account.specs.Statement.{Call, takes, after, answerOf, part, Walker, Honest, Asks, Follows, Meets}
 use Rattle.account.specs.Runs.{run, bytes}
 use Rattle.account.proofs.Fronts.{passed-passed}
-use Rattle.account.proofs.Calls.{taking, after-passed, after-refused}
+use Rattle.account.proofs.Calls.{taking, after-passed}
 
 module _ {H : Type 0} (W : Walker H) where
   abbrev pub Does : List ℕ → W .State → Account → Type 0

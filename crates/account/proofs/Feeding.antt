@@ -1,18 +1,17 @@
 -- A machine that takes pieces, and does with each what its bytes would do one by one, meets the rules that its bytes go by.
-use Prim.Native.Nat.{ℕ, zero, suc, _≤_, _<_}
+use Prim.Native.Nat.{ℕ, suc, _≤_, _<_}
 use mathlib.Core.Bool.{Bool, true, false}
 use mathlib.Core.List.{List, [], _∷_}
-use mathlib.Core.Path.{_≡_, refl, sym, ap, _∙_}
+use mathlib.Core.Path.{_≡_, refl, ap, _∙_}
 use native.Mathlib.Omega.{arith}
 use lib.ListN.{length}
 use Rattle.streaming.specs.Choose.{if_then_else_}
 use Rattle.streaming.specs.declared.Fault.{Fault}
-use Rattle.streaming.specs.declared.Asked.{Asked}
 use Rattle.streaming.specs.declared.Answer.{Answer}
 use Rattle.streaming.specs.declared.Answer.the-variants as answer
 use Rattle.account.specs.Account.{Account, demand, broken, askOf}
 use Rattle.account.specs.Statement.{Call, takes, refusal, answerOf, after, endedBy, part, Walker, Honest, Asks, Follows, Meets}
-use Rattle.account.proofs.Calls.{Taken, taken}
+use Rattle.account.proofs.Calls.{taken}
 use Rattle.account.proofs.Parts.{read-part}
 use Rattle.account.proofs.Onward.{ByteMachine, eats, Onward, onward-asks, onward-fault, Eaten, eaten}
 

@@ -16,3 +16,5 @@ pub mod Spells
 pub mod Phases
 pub mod Spelled
 pub mod Main
+pub mod Instance
+pub mod Cases

@@ -1,5 +1,5 @@
 -- A machine that takes one byte at a time, and what it is for it to go through a source as an account says. It exists for proofs only.
-use Prim.Native.Nat.{ℕ, zero, suc, _+_, _≤_, _<_}
+use Prim.Native.Nat.{ℕ, suc, _≤_, _<_}
 use mathlib.Core.List.{List, [], _∷_}
 use mathlib.Core.Path.{_≡_, refl, sym, ap, _∙_, subst}
 use native.Mathlib.Omega.{arith}
@@ -8,7 +8,6 @@ use Rattle.streaming.specs.declared.Fault.{Fault}
 use Rattle.streaming.specs.declared.Asked.{Asked}
 use Rattle.streaming.specs.declared.Answer.{Answer}
 use Rattle.account.specs.Account.{Account, ask, over, demand, broken, faulted, askOf, passed, saysAt}
-use Rattle.account.specs.Statement.{part}
 use Rattle.account.specs.Runs.{Past}
 use Rattle.account.specs.Tidy.{Joined, last, more, torn, Tidy, tidy-over, tidy-ask}
 use Rattle.account.proofs.Asking.{demand-same}

@@ -4,11 +4,10 @@ use mathlib.Core.Bool.{true, false, false≢true}
 use mathlib.Core.List.{List, [], _∷_}
 use mathlib.Core.Path.{_≡_, refl, sym, ap, _∙_, subst}
 use native.Mathlib.Omega.{arith}
-use Rattle.streaming.specs.Choose.{if_then_else_}
 use Rattle.streaming.specs.declared.Fault.{Fault}
 use Rattle.streaming.specs.declared.Answer.the-variants as answer
-use Rattle.account.specs.Account.{Account, ask, over, askOf, broken, faulted}
-use Rattle.account.specs.Statement.{Call, takes, refusal, after, answerOf, endedBy, Walker, Honest}
+use Rattle.account.specs.Account.{Account, ask, over, askOf, broken}
+use Rattle.account.specs.Statement.{Call, takes, refusal, Walker, Honest}
 use Rattle.account.specs.Runs.{run, Alike, Repeats}
 use Rattle.account.proofs.Calls.{after-refused, answer-refused}
 use Rattle.account.proofs.Does.{Does, Fair, asks, answers, does-after}

@@ -1,5 +1,5 @@
 -- A machine that takes given bytes as it should goes through the demand for them: the first other byte is a fault.
-use Prim.Native.Nat.{ℕ, zero, suc, _+_, _-_, _≤_, _<_}
+use Prim.Native.Nat.{ℕ, suc, _+_, _-_, _≤_, _<_}
 use mathlib.Core.List.{List, [], _∷_}
 use mathlib.Core.Path.{_≡_, refl, ap₂, _∙_}
 use native.Mathlib.Omega.{arith}
@@ -9,7 +9,7 @@ use lib.Dec.{eqb}
 use borrow.Author.Tests.{eqb-true, eqb-false}
 use Rattle.streaming.specs.declared.Fault.{Fault}
 use Rattle.streaming.proofs.Choose.{in-both}
-use Rattle.account.specs.Account.{Account, ask, demand, framing, faulted, broken}
+use Rattle.account.specs.Account.{ask, demand, framing, faulted, broken}
 use Rattle.account.specs.Asking.{Turn, saysBefore, spell}
 use Rattle.account.specs.Tidy.{last, more, torn}
 use Rattle.account.proofs.Asking.{spell-asks}

@@ -1,21 +1,22 @@
 -- A committed record stands: what a walker has committed is what the account commits in the bytes taken.
-use Prim.Native.Nat.{ℕ, zero, suc, _+_, _-_, _≤_}
+use Prim.Native.Nat.{ℕ, _+_, _-_, _≤_}
 use mathlib.Core.Bool.{Bool, true, false}
 use mathlib.Core.List.{List, [], _∷_, _++_, append-nil}
 use mathlib.Core.Logic.{_⊎_, inl, inr}
-use mathlib.Core.Path.{_≡_, refl, sym, ap, ap₂, _∙_}
+use mathlib.Core.Path.{_≡_, refl, sym, ap, ap₂, _∙_, subst}
 use native.Mathlib.Omega.{arith}
 use lib.ListN.{length}
 use lib.Dec.{leb}
 use borrow.Author.Tests.{leb-true, leb-false}
 use Rattle.streaming.specs.Choose.{if_then_else_}
-use Rattle.streaming.specs.Record.{Record, committedIn}
+use Rattle.streaming.specs.Record.{committedIn}
+use Rattle.streaming.specs.declared.Ended.the-variants as ended
 use Rattle.account.specs.Account.{Account, askOf, passed, saysAt, recordsIn, recordsWithin, endingOf}
 use Rattle.account.specs.Statement.{Call, takes, endedBy, Walker, Honest, Follows}
 use Rattle.account.specs.Runs.{run, bytes, committed, Past, Whole, Front}
 use Rattle.account.specs.Tidy.{Tidy}
 use Rattle.account.proofs.Fronts.{within-add, within-rest, tidy-passed, ending-passed, past-over}
-use Rattle.account.proofs.Calls.{taking, after-passed, answer-commits, answer-last}
+use Rattle.account.proofs.Calls.{taking, after-passed, answer-commits, answer-last, ended-whole}
 use Rattle.account.proofs.Does.{Does, Fair, asks, answers, does-run}
 
 module _ {H : Type 0} (W : Walker H) {src : List ℕ} where
@@ -56,6 +57,11 @@ module _ {H : Type 0} (W : Walker H) {src : List ℕ} where
           request = q .request ∙ e;
           endOfInput = q .endOfInput ∙ ap endedBy e;
         }
+
+    pub told-whole : (cs : List Call) → Honest W src st cs → W .endOfInput (run W st cs) ≡ ended.Whole → Whole W a st cs
+    told-whole cs h e =
+        let q = asks W (run W st cs) _ (does-run W cs st a does h) in
+        whole cs h (subst (Past src) (sym (q .request ∙ ended-whole _ (sym (q .endOfInput) ∙ e))) tt)
 
     -- (d) of two runs, the one that has taken more bytes has committed all that the other has
     pub further : (cs ds : List Call) → Honest W src st cs → Honest W src st ds → bytes W st cs ≤ bytes W st ds → Front (committed W st cs) (committed W st ds)
