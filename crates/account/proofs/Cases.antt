@@ -56,7 +56,8 @@ unfolding if_then_else_
 whole-four = whole-run Of rules tidy walker meets 10 src refl fourCalls honest-four tt
 
 -- a call is refused by its offset first, then by its length; the end of input names what is still asked for
-refused : (walker .feed (giving 10 1) (at 2 []) .0 ≡ answer.Refused (error.WrongOffset 1 2)) × (walker .feed (giving 10 1) (at 1 []) .0 ≡ answer.Refused (error.InvalidFeed 1 0))
+refused : (walker .feed (giving 10 1) (at 2 []) .0 ≡ answer.Refused (error.WrongOffset 1 2))
+    × (walker .feed (giving 10 1) (at 1 []) .0 ≡ answer.Refused (error.InvalidFeed 1 0))
     × (walker .feed (giving 10 1) (at 1 (8 ∷ 5 ∷ [])) .0 ≡ answer.Refused (error.InvalidFeed 1 2))
 unfolding if_then_else_
 refused = (refl, refl, refl)
@@ -65,7 +66,8 @@ truncated : walker .endOfInput (giving 10 0) ≡ ended.Refused (error.Truncated 
 truncated = refl
 
 -- a piece that is at fault in its first byte is taken whole: one byte for the rules, two for the caller
-fault-bytes : (bytesTaken (rules 10 (9 ∷ 8 ∷ 5 ∷ [])) ≡ 1) × (bytesAtMost (rules 10 (9 ∷ 8 ∷ 5 ∷ [])) ≡ 2) × (bytes walker (giving 10 0) (at 0 (9 ∷ 8 ∷ []) ∷ []) ≡ 2)
+fault-bytes : (bytesTaken (rules 10 (9 ∷ 8 ∷ 5 ∷ [])) ≡ 1) × (bytesAtMost (rules 10 (9 ∷ 8 ∷ 5 ∷ [])) ≡ 2)
+    × (bytes walker (giving 10 0) (at 0 (9 ∷ 8 ∷ []) ∷ []) ≡ 2)
 unfolding if_then_else_ spell bytesTaken bytesAtMost
 fault-bytes = (refl, refl, refl)
 
@@ -73,7 +75,13 @@ fault-bytes = (refl, refl, refl)
 
 -- refuses everything
 abbrev refuser : Walker ℕ
-refuser = record { State = ℕ; start = λ h. h; request = λ h. demand 0 2; feed = λ h c. (answer.Refused error.Finished, h); endOfInput = λ h. endedBy (demand 0 2) }
+refuser = record {
+  State = ℕ;
+  start = λ h. h;
+  request = λ h. demand 0 2;
+  feed = λ h c. (answer.Refused error.Finished, h);
+  endOfInput = λ h. endedBy (demand 0 2);
+}
 
 refuser-fails : Meets Of rules refuser → ⊥
 unfolding Meets if_then_else_ spell answerOf

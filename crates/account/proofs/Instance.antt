@@ -22,7 +22,7 @@ use Rattle.account.specs.Asking.{Turn, go, bad, span, spell}
 use Rattle.account.specs.Statement.{Walker, Meets}
 use Rattle.account.specs.Tidy.{Tidy, tidy-over}
 use Rattle.account.proofs.Tidying.{tidy-spell, tidy-span, tidy-turn-if, tidy-bad}
-use Rattle.account.proofs.Onward.{ByteMachine, stop, eats}
+use Rattle.account.proofs.Onward.{ByteMachine, stop, eat}
 use Rattle.account.proofs.Feeding.{same, machineWalker, machine-meets}
 use Rattle.account.proofs.Spans.{lands-go, lands-bad, lands-if, single}
 use Rattle.account.proofs.Spelled.{Spelled, spelled-on}
@@ -84,12 +84,8 @@ dead (failed f′) f b e = let z : f′ ≡ f = cc in rw z
 abbrev pub machine : ByteMachine
 machine = record { State = State; request = requestOf; bite = biteOf; dead = dead }
 
-abbrev pub feedOf : State → List ℕ → Answer × State
-feedOf st [] = (framing, st)
-feedOf st (b ∷ bs) = eats machine st b bs
-
 abbrev pub walker : Walker ℕ
-walker = machineWalker machine (λ limit. giving limit 0) feedOf
+walker = machineWalker machine (λ limit. giving limit 0) (eat machine)
 
 given-spelled : (limit : ℕ) → Spelled machine 0 given other (giving limit) (λ d. failed other) (framing, number limit)
 unfolding if_then_else_
@@ -104,5 +100,6 @@ given-spelled limit =
 
 pub meets : Meets Of rules walker
 meets =
-    machine-meets machine (λ limit. giving limit 0) feedOf Of rules (λ st b bs at left e h. same) λ limit src of.
-    spelled-on (given-spelled limit) src (omega arith) _ λ k. lands-go (single framing refl λ l. lands-if (ltb (getD src 2 0) limit) (λ e. lands-go (stop refl tt)) (λ e. lands-bad refl))
+    machine-meets machine (λ limit. giving limit 0) (eat machine) Of rules (λ st b bs at left e h. same) λ limit src of.
+    spelled-on (given-spelled limit) src (omega arith) _ λ k.
+    lands-go (single framing refl λ l. lands-if (ltb (getD src 2 0) limit) (λ e. lands-go (stop refl tt)) (λ e. lands-bad refl))

@@ -8,6 +8,7 @@ pub mod Unique
 pub mod Refused
 pub mod Parts
 pub mod Bounds
+pub mod Brought
 pub mod Carried
 pub mod Onward
 pub mod Feeding

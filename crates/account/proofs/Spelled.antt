@@ -89,7 +89,8 @@ module _ {M : ByteMachine} {at : ℕ} {ws : List ℕ} {f : Fault} {mid gone : �
   pub spelled-chews : (bs : List ℕ) (b d : ℕ) → d + suc (length bs) ≤ length ws
       → (t : Bool) → (t ≡ true → b ∷ bs ≡ part ws d (suc (length bs))) → (t ≡ false → b ∷ bs ≡ part ws d (suc (length bs)) → ⊥)
       → (lost : M .State) → M .request lost ≡ broken f
-      → Same M (if t then (if eqb (d + suc (length bs)) (length ws) then fin else (framing, mid (d + suc (length bs)))) else (faulted f, lost)) (eats M (mid d) b bs)
+      → Same M (if t then (if eqb (d + suc (length bs)) (length ws) then fin else (framing, mid (d + suc (length bs)))) else (faulted f, lost))
+      (eats M (mid d) b bs)
   spelled-chews bs b d h t right-bytes wrong-bytes lost e =
       in-both (λ (r : Answer × M .State). Same M r (eats M (mid d) b bs)) t (λ k. rw (right bs b d h (right-bytes k)) same)
       λ k. let z = wrong bs b d h (wrong-bytes k) in fell f (sym (z .says)) e (z .holds)
