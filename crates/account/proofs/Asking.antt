@@ -2,8 +2,7 @@
 use Prim.Native.Nat.{ℕ, suc}
 use mathlib.Core.List.{List, _∷_}
 use mathlib.Core.Path.{_≡_, refl, ap}
-use lib.ListN.{length, getD}
-use lib.Dec.{ltb, eqb}
+use lib.ListN.{length}
 use Rattle.streaming.specs.declared.Request.{Request}
 use Rattle.streaming.specs.declared.Fault.{Fault}
 use Rattle.streaming.specs.declared.Answer.{Answer}
@@ -19,7 +18,7 @@ demand-same {at} {left} {at′} {left′} e =
 
 module _ (src : List ℕ) where
   pub askByte-asks : (at left : ℕ) (says : Answer) (rest : Account) → askOf (askByte src at left says rest) ≡ demand at left
-  askByte-asks at left says rest = in-both (λ (a : Account). askOf a ≡ demand at left) (ltb at (length src)) (λ e. refl) (λ e. refl)
+  askByte-asks at left says rest = in-both (λ (a : Account). askOf a ≡ demand at left) _ (λ e. refl) (λ e. refl)
 
   pub span-asks : (at n : ℕ) (plain : Answer) (t : Turn) → askOf (span src at (suc n) plain t) ≡ demand at (suc n)
   unfolding span
@@ -32,4 +31,4 @@ module _ (src : List ℕ) where
   pub spell-asks : (at w : ℕ) (ws : List ℕ) (f : Fault) (t : Turn) → askOf (spell src at (w ∷ ws) f t) ≡ demand at (suc (length ws))
   unfolding spell
   spell-asks at w ws f t =
-      in-both (λ (a : Account). askOf a ≡ demand at (suc (length ws))) (eqb (getD src at 0) w) (λ e. askByte-asks at _ _ _) (λ e. askByte-asks at _ _ _)
+      in-both (λ (a : Account). askOf a ≡ demand at (suc (length ws))) _ (λ e. askByte-asks at _ _ _) (λ e. askByte-asks at _ _ _)

@@ -1,18 +1,17 @@
 -- A machine that takes pieces, and does with each what its bytes would do one by one, meets the rules that its bytes go by.
-use Prim.Native.Nat.{ℕ, zero, suc, _≤_, _<_}
+use Prim.Native.Nat.{ℕ, suc, _≤_, _<_}
 use mathlib.Core.Bool.{Bool, true, false}
 use mathlib.Core.List.{List, [], _∷_}
-use mathlib.Core.Path.{_≡_, refl, sym, ap, _∙_}
+use mathlib.Core.Path.{_≡_, refl, ap, _∙_}
 use native.Mathlib.Omega.{arith}
 use lib.ListN.{length}
 use Rattle.streaming.specs.Choose.{if_then_else_}
 use Rattle.streaming.specs.declared.Fault.{Fault}
-use Rattle.streaming.specs.declared.Asked.{Asked}
 use Rattle.streaming.specs.declared.Answer.{Answer}
 use Rattle.streaming.specs.declared.Answer.the-variants as answer
 use Rattle.account.specs.Account.{Account, demand, broken, askOf}
-use Rattle.account.specs.Statement.{Call, takes, refusal, answerOf, after, endedBy, part, Walker, Honest, Asks, Follows, Meets}
-use Rattle.account.proofs.Calls.{Taken, taken}
+use Rattle.account.specs.Statement.{Call, takes, refusal, answerOf, after, endedBy, part, Walker, HonestCall, Honest, Asks, Follows, Meets}
+use Rattle.account.proofs.Calls.{taken}
 use Rattle.account.proofs.Parts.{read-part}
 use Rattle.account.proofs.Onward.{ByteMachine, eats, Onward, onward-asks, onward-fault, Eaten, eaten}
 
@@ -23,7 +22,8 @@ pub data Same (M : ByteMachine) : (r r′ : Answer × M .State) → Type 0 where
 
 -- a piece of a demand does what its bytes do
 abbrev pub Splits : (M : ByteMachine) (feed : M .State → List ℕ → Answer × M .State) → Type 0
-Splits M feed = (st : M .State) (b : ℕ) (bs : List ℕ) (at left : ℕ) → M .request st ≡ demand at left → suc (length bs) ≤ left → Same M (feed st (b ∷ bs)) (eats M st b bs)
+Splits M feed = (st : M .State) (b : ℕ) (bs : List ℕ) (at left : ℕ) → M .request st ≡ demand at left → suc (length bs) ≤ left
+    → Same M (feed st (b ∷ bs)) (eats M st b bs)
 
 -- a piece that the source has at the place of a demand does what the account says
 abbrev pub Feeds : (M : ByteMachine) (feed : M .State → List ℕ → Answer × M .State) (src : List ℕ) → Type 0
@@ -53,8 +53,7 @@ module _ {H : Type 0} (M : ByteMachine) (start : H → M .State) (feed : M .Stat
       answer : fed st c .0 ≡ answerOf a c
       goes : Onward M src (fed st c .1) (after a c)
 
-    answered : {st : M .State} {a : Account} → Onward M src st a → (c : Call) → (takes (M .request st) c ≡ true → c .piece ≡ part src (c .offset) (length (c .piece)))
-        → Answered st a c
+    answered : {st : M .State} {a : Account} → Onward M src st a → (c : Call) → HonestCall machineWalker src st c → Answered st a c
     unfolding answerOf after if_then_else_
     answered {st} {a} o c honest = split (takes (askOf a) c) refl
       where

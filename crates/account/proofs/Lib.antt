@@ -8,6 +8,7 @@ pub mod Unique
 pub mod Refused
 pub mod Parts
 pub mod Bounds
+pub mod Brought
 pub mod Carried
 pub mod Onward
 pub mod Feeding
@@ -16,3 +17,5 @@ pub mod Spells
 pub mod Phases
 pub mod Spelled
 pub mod Main
+pub mod Instance
+pub mod Cases

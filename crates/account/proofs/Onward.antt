@@ -1,5 +1,5 @@
 -- A machine that takes one byte at a time, and what it is for it to go through a source as an account says. It exists for proofs only.
-use Prim.Native.Nat.{ℕ, zero, suc, _+_, _≤_, _<_}
+use Prim.Native.Nat.{ℕ, suc, _≤_, _<_}
 use mathlib.Core.List.{List, [], _∷_}
 use mathlib.Core.Path.{_≡_, refl, sym, ap, _∙_, subst}
 use native.Mathlib.Omega.{arith}
@@ -7,8 +7,7 @@ use lib.ListN.{length, getD}
 use Rattle.streaming.specs.declared.Fault.{Fault}
 use Rattle.streaming.specs.declared.Asked.{Asked}
 use Rattle.streaming.specs.declared.Answer.{Answer}
-use Rattle.account.specs.Account.{Account, ask, over, demand, broken, faulted, askOf, passed, saysAt}
-use Rattle.account.specs.Statement.{part}
+use Rattle.account.specs.Account.{Account, ask, over, demand, framing, broken, faulted, askOf, passed, saysAt}
 use Rattle.account.specs.Runs.{Past}
 use Rattle.account.specs.Tidy.{Joined, last, more, torn, Tidy, tidy-over, tidy-ask}
 use Rattle.account.proofs.Asking.{demand-same}
@@ -26,6 +25,10 @@ module _ (M : ByteMachine) where
   abbrev pub eats : M .State → ℕ → List ℕ → Answer × M .State
   eats st b [] = M .bite st b
   eats st b (c ∷ bs) = eats (M .bite st b .1) c bs
+
+  abbrev pub eat : M .State → List ℕ → Answer × M .State
+  eat st [] = (framing, st)
+  eat st (b ∷ bs) = eats st b bs
 
   pub eats-next : (st : M .State) {next : M .State} {s : Answer} (b c : ℕ) (bs : List ℕ) → M .bite st b ≡ (s, next) → eats st b (c ∷ bs) ≡ eats next c bs
   eats-next st b c bs e = ap (λ (r : Answer × M .State). eats (r .1) c bs) e
@@ -51,7 +54,8 @@ module _ {M : ByteMachine} {src : List ℕ} where
   onward-tidy (byte e h b j o) = tidy-ask h j (onward-tidy o)
 
   -- where a fault is held, any state that holds it does as well
-  pub onward-fault : {st next : M .State} {f : Fault} (a : Account) → Onward M src st a → M .request st ≡ broken f → M .request next ≡ broken f → Onward M src next a
+  pub onward-fault : {st next : M .State} {f : Fault} (a : Account) → Onward M src st a → M .request st ≡ broken f → M .request next ≡ broken f
+      → Onward M src next a
   onward-fault (over q) (stop e p) x y = stop (y ∙ sym x ∙ e) p
   onward-fault (ask at left says rest) (byte e h b j o) x y = let z : _≡_ {A = ℕ} 0 1 = cc in absurd (omega arith)
 
@@ -61,7 +65,8 @@ pub record Eaten (M : ByteMachine) (src : List ℕ) (a : Account) (n : ℕ) (r :
   pub goes : Onward M src (r .1) (passed n a)
 
 module _ (M : ByteMachine) (src : List ℕ) where
-  torn-eats : (bs : List ℕ) (b : ℕ) {st : M .State} {f : Fault} → Onward M src st (over (broken f)) → Eaten M src (over (broken f)) (suc (length bs)) (eats M st b bs)
+  torn-eats : (bs : List ℕ) (b : ℕ) {st : M .State} {f : Fault} → Onward M src st (over (broken f))
+      → Eaten M src (over (broken f)) (suc (length bs)) (eats M st b bs)
   torn-eats bs b {st} {f} (stop q p) = rw (dead-eats M bs b st f q) (record { says = refl; goes = stop q tt })
 
   further : {st next : M .State} {rest : Account} {at left : ℕ} {says : Answer} (b c : ℕ) (bs : List ℕ) → M .bite st b ≡ (says, next)

@@ -41,8 +41,8 @@ module _ {M : ByteMachine} {src : List ℕ} where
   lands-if false x y = y refl
 
   -- a byte of a demand, if the source has it
-  pub asks-byte : {st : M .State} (at left : ℕ) {says : Answer} {rest : Account} → M .request st ≡ demand at left → (at < length src → Onward M src st (ask at left says rest))
-      → Onward M src st (askByte src at left says rest)
+  pub asks-byte : {st : M .State} (at left : ℕ) {says : Answer} {rest : Account} → M .request st ≡ demand at left
+      → (at < length src → Onward M src st (ask at left says rest)) → Onward M src st (askByte src at left says rest)
   asks-byte {st} at left q k = in-both (Onward M src st) (ltb at (length src)) (λ e. k (ltb-true at (length src) e)) (λ e. stop q (ltb-false at (length src) e))
 
 -- ---- a number of bytes
@@ -60,7 +60,8 @@ pub record Passage (M : ByteMachine) (src : List ℕ) (left : ℕ → ℕ) (at n
   pub going : (d : ℕ) → suc d < n → at + d < length src → M .bite (mid d) (getD src (at + d) 0) ≡ (plain, mid (suc d))
   pub ending : (d : ℕ) → suc d ≡ n → at + n ≤ length src → Lands M src (M .bite (mid d) (getD src (at + d) 0)) t
 
-module _ {M : ByteMachine} {src : List ℕ} {left : ℕ → ℕ} {at n : ℕ} {plain : Answer} {t : Turn} {mid : ℕ → M .State} (p : Passage M src left at (suc n) plain t mid) where
+module _ {M : ByteMachine} {src : List ℕ} {left : ℕ → ℕ} {at n : ℕ} {plain : Answer} {t : Turn} {mid : ℕ → M .State}
+    (p : Passage M src left at (suc n) plain t mid) where
   first-asks : M .request (mid 0) ≡ demand at (left (suc n))
   first-asks = p .asking 0 (omega arith) (omega arith) ∙ ap₂ demand (omega arith) (ap left (omega arith))
 
@@ -97,12 +98,13 @@ module _ {M : ByteMachine} {src : List ℕ} where
   steps zero {at} p = asks-byte at 1 (first-asks p) λ l. let z = first-ends p refl l in byte (first-asks p) l (z .same) last (z .on)
   steps (suc n) {at} p = asks-byte at 1 (first-asks p) λ l. byte (first-asks p) l (first-goes p (omega arith) l) last (steps n (others p l))
 
-  pub steps-some : (n : ℕ) {at : ℕ} {t : Turn} {mid : ℕ → M .State} → 0 < n → Passage M src alone at n framing t mid → Onward M src (mid 0) (oneByOne src at n t)
+  pub steps-some : (n : ℕ) {at : ℕ} {t : Turn} {mid : ℕ → M .State} → 0 < n → Passage M src alone at n framing t mid
+      → Onward M src (mid 0) (oneByOne src at n t)
   steps-some zero h p = absurd (omega arith)
   steps-some (suc n) h p = steps n p
 
   -- a demand of one byte
-  pub single : {st : M .State} {at : ℕ} (plain : Answer) {t : Turn} → M .request st ≡ demand at 1 → (at < length src → Lands M src (M .bite st (getD src at 0)) t)
-      → Onward M src st (span src at 1 plain t)
+  pub single : {st : M .State} {at : ℕ} (plain : Answer) {t : Turn} → M .request st ≡ demand at 1
+      → (at < length src → Lands M src (M .bite st (getD src at 0)) t) → Onward M src st (span src at 1 plain t)
   unfolding span
   single {at = at} plain q k = asks-byte at 1 q λ l. let z = k l in byte q l (z .same) last (z .on)

@@ -1,8 +1,8 @@
 -- A demand for given bytes, told once, over any bytes: the walk over a source, and that a piece compared as a whole does what its bytes do.
-use Prim.Native.Nat.{ℕ, zero, suc, _+_, _-_, _≤_, _<_}
+use Prim.Native.Nat.{ℕ, suc, _+_, _-_, _≤_, _<_}
 use mathlib.Core.Bool.{Bool, true, false}
 use mathlib.Core.List.{List, [], _∷_}
-use mathlib.Core.Path.{_≡_, refl, sym, ap, ap₂, _∙_}
+use mathlib.Core.Path.{_≡_, refl, sym, _∙_}
 use native.Mathlib.Omega.{arith}
 use lib.ListN.{length, getD}
 use lib.Dec.{eqb}
@@ -18,7 +18,7 @@ use Rattle.account.proofs.Parts.{part-cons}
 use Rattle.account.proofs.Onward.{ByteMachine, eats, eats-next, dead-eats, Onward}
 use Rattle.account.proofs.Feeding.{Same, same, fell}
 use Rattle.account.proofs.Spans.{Lands}
-use Rattle.account.proofs.Spells.{Spelling, spells-some}
+use Rattle.account.proofs.Spells.{spells-some}
 
 -- given bytes at a place: behind d of them the machine is in `mid d`, a wrong byte leads to `gone d`, and the last one to `fin`
 pub record Spelled (M : ByteMachine) (at : ℕ) (ws : List ℕ) (f : Fault) (mid gone : ℕ → M .State) (fin : Answer × M .State) : Type 0 where
@@ -89,7 +89,8 @@ module _ {M : ByteMachine} {at : ℕ} {ws : List ℕ} {f : Fault} {mid gone : �
   pub spelled-chews : (bs : List ℕ) (b d : ℕ) → d + suc (length bs) ≤ length ws
       → (t : Bool) → (t ≡ true → b ∷ bs ≡ part ws d (suc (length bs))) → (t ≡ false → b ∷ bs ≡ part ws d (suc (length bs)) → ⊥)
       → (lost : M .State) → M .request lost ≡ broken f
-      → Same M (if t then (if eqb (d + suc (length bs)) (length ws) then fin else (framing, mid (d + suc (length bs)))) else (faulted f, lost)) (eats M (mid d) b bs)
+      → Same M (if t then (if eqb (d + suc (length bs)) (length ws) then fin else (framing, mid (d + suc (length bs)))) else (faulted f, lost))
+      (eats M (mid d) b bs)
   spelled-chews bs b d h t right-bytes wrong-bytes lost e =
       in-both (λ (r : Answer × M .State). Same M r (eats M (mid d) b bs)) t (λ k. rw (right bs b d h (right-bytes k)) same)
       λ k. let z = wrong bs b d h (wrong-bytes k) in fell f (sym (z .says)) e (z .holds)

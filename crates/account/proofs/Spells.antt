@@ -1,5 +1,5 @@
 -- A machine that takes given bytes as it should goes through the demand for them: the first other byte is a fault.
-use Prim.Native.Nat.{ℕ, zero, suc, _+_, _-_, _≤_, _<_}
+use Prim.Native.Nat.{ℕ, suc, _+_, _-_, _≤_, _<_}
 use mathlib.Core.List.{List, [], _∷_}
 use mathlib.Core.Path.{_≡_, refl, ap₂, _∙_}
 use native.Mathlib.Omega.{arith}
@@ -9,7 +9,7 @@ use lib.Dec.{eqb}
 use borrow.Author.Tests.{eqb-true, eqb-false}
 use Rattle.streaming.specs.declared.Fault.{Fault}
 use Rattle.streaming.proofs.Choose.{in-both}
-use Rattle.account.specs.Account.{Account, ask, demand, framing, faulted, broken}
+use Rattle.account.specs.Account.{ask, demand, framing, faulted, broken}
 use Rattle.account.specs.Asking.{Turn, saysBefore, spell}
 use Rattle.account.specs.Tidy.{last, more, torn}
 use Rattle.account.proofs.Asking.{spell-asks}
@@ -20,11 +20,13 @@ use Rattle.account.proofs.Spans.{Lands, asks-byte}
 pub record Spelling (M : ByteMachine) (src : List ℕ) (at : ℕ) (ws : List ℕ) (f : Fault) (t : Turn) (mid gone : ℕ → M .State) : Type 0 where
   pub asking : (d : ℕ) → d < length ws → M .request (mid d) ≡ demand (at + d) (length ws - d)
   pub going : (d : ℕ) → suc d < length ws → getD src (at + d) 0 ≡ getD ws d 0 → M .bite (mid d) (getD src (at + d) 0) ≡ (framing, mid (suc d))
-  pub ending : (d : ℕ) → suc d ≡ length ws → at + length ws ≤ length src → getD src (at + d) 0 ≡ getD ws d 0 → Lands M src (M .bite (mid d) (getD src (at + d) 0)) t
+  pub ending : (d : ℕ) → suc d ≡ length ws → at + length ws ≤ length src → getD src (at + d) 0 ≡ getD ws d 0
+      → Lands M src (M .bite (mid d) (getD src (at + d) 0)) t
   pub tearing : (d : ℕ) → d < length ws → (getD src (at + d) 0 ≡ getD ws d 0 → ⊥) → M .bite (mid d) (getD src (at + d) 0) ≡ (faulted f, gone d)
   pub broke : (d : ℕ) → d < length ws → M .request (gone d) ≡ broken f
 
-module _ {M : ByteMachine} {src : List ℕ} {at w : ℕ} {ws : List ℕ} {f : Fault} {t : Turn} {mid gone : ℕ → M .State} (p : Spelling M src at (w ∷ ws) f t mid gone) where
+module _ {M : ByteMachine} {src : List ℕ} {at w : ℕ} {ws : List ℕ} {f : Fault} {t : Turn} {mid gone : ℕ → M .State}
+    (p : Spelling M src at (w ∷ ws) f t mid gone) where
   first-asks : M .request (mid 0) ≡ demand at (suc (length ws))
   first-asks = p .asking 0 (omega arith) ∙ ap₂ demand (omega arith) (omega arith)
 
