@@ -19,3 +19,6 @@ pub mod Spelled
 pub mod Main
 pub mod Instance
 pub mod Cases
+pub mod Demands
+pub mod Walks
+pub mod Walking
