@@ -10,12 +10,6 @@ pub mod Parts
 pub mod Bounds
 pub mod Brought
 pub mod Carried
-pub mod Onward
-pub mod Feeding
-pub mod Spans
-pub mod Spells
-pub mod Phases
-pub mod Spelled
 pub mod Main
 pub mod Instance
 pub mod Cases

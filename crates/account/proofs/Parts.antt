@@ -44,12 +44,12 @@ pub part-add : (src : List ℕ) (at d k : ℕ) → part src at d ++ part src (at
 part-add src at d k = sym (take-add d k (drop at src) ∙ rw drop-drop)
 
 -- two lists of bytes are the same, or not
-same-cons : (x y : ℕ) (xs ys : List ℕ) (b : Bool) → eqb x y ≡ b → (xs ≡ ys) ⊎ (xs ≡ ys → ⊥) → (x ∷ xs ≡ y ∷ ys) ⊎ (x ∷ xs ≡ y ∷ ys → ⊥)
+abbrev pub same-cons : (x y : ℕ) (xs ys : List ℕ) (b : Bool) → eqb x y ≡ b → (xs ≡ ys) ⊎ (xs ≡ ys → ⊥) → (x ∷ xs ≡ y ∷ ys) ⊎ (x ∷ xs ≡ y ∷ ys → ⊥)
 same-cons x y xs ys false e s = inr (λ q. eqb-false x y e (cc q))
 same-cons x y xs ys true e (inl s) = inl (ap₂ (λ (z : ℕ) (zs : List ℕ). z ∷ zs) (eqb-true x y e) s)
 same-cons x y xs ys true e (inr s) = inr (λ q. s (cc q))
 
-pub same-or-not : (xs ys : List ℕ) → (xs ≡ ys) ⊎ (xs ≡ ys → ⊥)
+abbrev pub same-or-not : (xs ys : List ℕ) → (xs ≡ ys) ⊎ (xs ≡ ys → ⊥)
 same-or-not [] [] = inl refl
 same-or-not [] (y ∷ ys) = inr (λ e. let z : _≡_ {A = ℕ} 0 1 = cc in omega arith)
 same-or-not (x ∷ xs) [] = inr (λ e. let z : _≡_ {A = ℕ} 0 1 = cc in omega arith)
