@@ -243,19 +243,19 @@ impl Drawing {
     /// Makes the CRCs right again: those of records first, since a section
     /// may hold them.
     pub fn mend(&mut self) {
-        let source = &mut self.case.source;
         for &at in &self.records {
-            mend_record(source, at);
+            mend_record(&mut self.case.source, at);
         }
+        self.mend_sections();
+        for &at in &self.chunks {
+            mend_chunk(&mut self.case.source, at);
+        }
+    }
+
+    pub fn mend_sections(&mut self) {
         for unit in &self.units[..2] {
             let (at, size) = (unit.offset as usize, unit.size as usize);
-            mend_crc(source, at + 16, at + size - 18, u16::to_le_bytes);
-        }
-        for &at in &self.chunks {
-            if let Some(&[high, low]) = source.get(at..at + 2) {
-                let size = usize::from(u16::from_be_bytes([high, low]));
-                mend_crc(source, at, at + size, u16::to_be_bytes);
-            }
+            mend_crc(&mut self.case.source, at + 16, at + size - 18, u16::to_le_bytes);
         }
     }
 }
@@ -265,6 +265,13 @@ fn mend_crc(source: &mut [u8], from: usize, to: usize, order: fn(u16) -> [u8; 2]
     if from <= to && to + 2 <= source.len() {
         let crc = crc8(SEED, &source[from..to]);
         put(source, to, &order(crc));
+    }
+}
+
+fn mend_chunk(source: &mut [u8], at: usize) {
+    if let Some(&[high, low]) = source.get(at..at + 2) {
+        let size = usize::from(u16::from_be_bytes([high, low]));
+        mend_crc(source, at, at + size, u16::to_be_bytes);
     }
 }
 

@@ -152,6 +152,6 @@ pub fn span(drawing: &mut Drawing, rng: &mut Rng) {
     let bytes = size_words(size as u32, two);
     if bytes.len() == words {
         drawing.case.source[at..at + words].copy_from_slice(&bytes);
-        drawing.mend();
+        drawing.mend_sections();
     }
 }
