@@ -75,7 +75,10 @@ fn patiently(mut child: Child) -> Result<ExitStatus, String> {
             return Ok(status);
         }
         if begun.elapsed() > PATIENCE {
-            child.kill().and_then(|()| child.wait()).map_err(|error| error.to_string())?;
+            child
+                .kill()
+                .and_then(|()| child.wait())
+                .map_err(|error| error.to_string())?;
             return Err(format!("no end after {} s", PATIENCE.as_secs()));
         }
         thread::sleep(Duration::from_micros(100));
@@ -110,10 +113,17 @@ fn difference(judge: &str, ours: &str) -> Option<(u64, String)> {
     let lines = |text: &str| -> Vec<String> { text.split('\n').map(str::to_string).collect() };
     let (theirs, ours) = (lines(judge), lines(ours));
     let most = theirs.len().max(ours.len());
-    let apart: Vec<usize> = (0..most).filter(|&n| theirs.get(n) != ours.get(n)).collect();
+    let apart: Vec<usize> = (0..most)
+        .filter(|&n| theirs.get(n) != ours.get(n))
+        .collect();
     let said = |side: &[String], n: usize| side.get(n).cloned().unwrap_or("nothing".to_string());
     let at = apart[0];
-    let what = format!("line {}: judge {}, ours {}", at + 1, said(&theirs, at), said(&ours, at));
+    let what = format!(
+        "line {}: judge {}, ours {}",
+        at + 1,
+        said(&theirs, at),
+        said(&ours, at)
+    );
     Some((apart.len() as u64, what))
 }
 

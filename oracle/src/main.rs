@@ -97,7 +97,9 @@ fn run(arguments: &[&str]) -> Result<String, String> {
     match *arguments {
         ["selftest"] => selftest::selftest(),
         ["table"] => crc_form::table(),
-        ["gen", name, seed, count, dir] => generate(kind(name)?, number(seed)?, number(count)?, dir),
+        ["gen", name, seed, count, dir] => {
+            generate(kind(name)?, number(seed)?, number(count)?, dir)
+        }
         ["compare", name, seed, count, ours, folder] => compare(&Task {
             kind: kind(name)?,
             seed: number(seed)?,

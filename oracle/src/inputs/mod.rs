@@ -6,8 +6,10 @@ mod damage;
 mod drawing;
 mod drive;
 mod forge;
+mod forge_header;
 mod heads;
 mod map;
+mod mend;
 mod plan;
 mod record;
 mod replay;
@@ -59,7 +61,7 @@ pub fn drawn_case(seed: u64, number: u64) -> Case {
 
 /// A header and a state next to its bounds, at times with a field changed.
 pub fn forged(rng: &mut Rng) -> (Header, State) {
-    let header = forge::header(rng);
+    let header = forge_header::header(rng);
     let mut state = forge::state(rng, &header);
     for _ in 0..rng.below(3) {
         forge::disturb(&mut state, rng, &header);

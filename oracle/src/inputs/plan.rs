@@ -45,7 +45,11 @@ fn section_data(rng: &mut Rng, scale: Scale) -> Vec<u8> {
         Scale::Middle => 120,
         Scale::Large => 6000,
     };
-    let n = if rng.one_in(3) { 0 } else { rng.between(1, most) };
+    let n = if rng.one_in(3) {
+        0
+    } else {
+        rng.between(1, most)
+    };
     rng.bytes(n)
 }
 

@@ -2,7 +2,7 @@
 //! calls in between, forged states, and calls after the end.
 
 use super::rng::Rng;
-use super::{coax, drive, forge};
+use super::{coax, drive, forge, forge_header};
 use crate::calls::{Call, push_call};
 use crate::form::LIMIT;
 use crate::replay::{Hand, Judge};
@@ -164,9 +164,9 @@ fn walk_drawing(script: &mut Script, rng: &mut Rng) {
 
 /// Headers that Start refuses or that begin with a failure.
 fn odd_start(script: &mut Script, rng: &mut Rng) {
-    let mut header = forge::header(rng);
+    let mut header = forge_header::header(rng);
     if !rng.one_in(4) {
-        forge::disturb_header(&mut header, rng);
+        forge_header::disturb_header(&mut header, rng);
     }
     script.call(Call::Start(header));
     script.disturbances(rng, 5);
@@ -200,9 +200,9 @@ fn reached_state(script: &mut Script, rng: &mut Rng) {
 }
 
 fn forged_state(script: &mut Script, rng: &mut Rng) {
-    let mut header = forge::header(rng);
+    let mut header = forge_header::header(rng);
     if rng.one_in(10) {
-        forge::disturb_header(&mut header, rng);
+        forge_header::disturb_header(&mut header, rng);
     }
     let mut state = forge::state(rng, &header);
     for _ in 0..rng.pick(&[0, 0, 0, 1, 2]) {

@@ -9,12 +9,17 @@ use crate::streaming::door::Locator;
 /// The place of the locator that counts for this number.
 fn locator(drawing: &mut Drawing, number: u8) -> &mut Locator {
     let mut list = drawing.case.locators.iter_mut();
-    list.find(|l| l.number == number).expect("a drawing has its three units")
+    list.find(|l| l.number == number)
+        .expect("a drawing has its three units")
 }
 
 /// Takes a locator away, or its number. Another of its number then counts.
 fn lose_locator(drawing: &mut Drawing, rng: &mut Rng, number: u8) {
-    let away = drawing.case.locators.iter().position(|l| l.number == number);
+    let away = drawing
+        .case
+        .locators
+        .iter()
+        .position(|l| l.number == number);
     let away = away.expect("a drawing has its three units");
     if rng.one_in(2) {
         drawing.case.locators.remove(away);

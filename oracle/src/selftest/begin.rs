@@ -26,7 +26,13 @@ fn same(checks: &mut Checks, header: &Header) -> bool {
     let Some(parsed) = through_parser(header) else {
         return false;
     };
-    checks.holds("Start takes what the parser takes", start_refusal(header).is_none());
-    checks.holds(&format!("both begin alike: {header:?}"), parsed == by_hand(header));
+    checks.holds(
+        "Start takes what the parser takes",
+        start_refusal(header).is_none(),
+    );
+    checks.holds(
+        &format!("both begin alike: {header:?}"),
+        parsed == by_hand(header),
+    );
     true
 }

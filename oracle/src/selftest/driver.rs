@@ -14,6 +14,7 @@ pub fn check(checks: &mut Checks) {
     chunk_sizes(checks);
     spans(checks);
     easy_to_get_wrong(checks);
+    record_inside_section(checks);
     cuts(checks);
     bounds(checks);
 }
@@ -114,45 +115,75 @@ fn spans(checks: &mut Checks) {
     let lines = last_lines(&sketch(&OBJECT, &one_entry(5, 153), &[]), 2);
     ends_with_fault(checks, "the map's first byte", &lines, "X 13 5 153");
     let behind = sketch(&[], &one_entry(5, 146 + 11), &OBJECT);
-    checks.prints("just behind the map", &printed(&behind).lines().nth(2).unwrap_or_default(), "O 5 157 3 0");
+    checks.prints(
+        "just behind the map",
+        printed(&behind).lines().nth(2).unwrap_or_default(),
+        "O 5 157 3 0",
+    );
     let case = sketch(&OBJECT, &one_entry(5, 69), &[]);
-    ends_with_fault(checks, "under the header's end", &last_lines(&case, 2), "X 13 5 69");
+    ends_with_fault(
+        checks,
+        "under the header's end",
+        &last_lines(&case, 2),
+        "X 13 5 69",
+    );
 }
 
 fn easy_to_get_wrong(checks: &mut Checks) {
     let mut case = whole();
     case.source.swap(158, 159);
-    ends_with_fault(checks, "map CRC little-endian", &last_lines(&case, 2), "X 11 153 48317 48572");
+    ends_with_fault(
+        checks,
+        "map CRC little-endian",
+        &last_lines(&case, 2),
+        "X 11 153 48317 48572",
+    );
     let twice = [chunk(&entry(5, 146)), one_entry(5, 146)].concat();
     let case = sketch(&OBJECT, &twice, &[]);
-    checks.prints("handles restart in a chunk", &last_lines(&case, 1), "E 0 114 108 6 2 1");
+    checks.prints(
+        "handles restart in a chunk",
+        &last_lines(&case, 1),
+        "E 0 114 108 6 2 1",
+    );
     let mut case = whole();
     case.locators[2].size -= 4;
     ends_with_fault(checks, "no final chunk", &last_lines(&case, 2), "X 10 160");
-    let mut case = sketch(&[], &one_entry(5, 90), &[]);
-    let mut section = case.source[70..86].to_vec();
-    section.extend([7, 0, 0, 0]);
-    section.extend(OBJECT);
-    let crc = crc8(0xc0c1, &section[16..]).to_le_bytes();
-    section.extend([&crc[..], &case.source[92..108]].concat());
+}
+
+/// The header-variable section moved to the end, with the object as its data,
+/// and a map behind it.
+fn record_inside_section(checks: &mut Checks) {
+    let mut case = whole();
+    let (start, end) = (case.source[70..86].to_vec(), case.source[92..108].to_vec());
+    let covered = [&[7, 0, 0, 0][..], &OBJECT].concat();
+    let crc = crc8(0xc0c1, &covered).to_le_bytes();
     let at = case.source.len();
-    case.source.extend(&section);
-    case.locators[0] = locator(0, at, 45);
     let map = one_entry(5, at + 20);
-    let map_at = case.source.len();
-    case.source.extend(&map);
-    case.locators[2] = locator(2, map_at, map.len());
+    case.source
+        .extend([&start[..], &covered, &crc, &end, &map].concat());
+    case.locators[0] = locator(0, at, 45);
+    case.locators[2] = locator(2, at + 45, map.len());
     let said = format!("O 5 {} 3 0", at + 20);
-    checks.prints("a record inside a section", printed(&case).lines().nth(2).unwrap_or_default(), &said);
+    let lines = printed(&case);
+    let object = lines.lines().nth(2).unwrap_or_default();
+    checks.prints("a record inside a section", object, &said);
 }
 
 /// Cuts are seen in the counts of ending 8 alone.
 fn cuts(checks: &mut Checks) {
     let mut case = whole();
     case.source[70] ^= 1;
-    checks.prints("ending 8, whole", &last_lines(&case, 2), "X 8 0\nE 8 16 16 0 0 0");
+    checks.prints(
+        "ending 8, whole",
+        &last_lines(&case, 2),
+        "X 8 0\nE 8 16 16 0 0 0",
+    );
     case.cuts = vec![1];
-    checks.prints("ending 8, single bytes", &last_lines(&case, 2), "X 8 0\nE 8 1 1 0 0 0");
+    checks.prints(
+        "ending 8, single bytes",
+        &last_lines(&case, 2),
+        "X 8 0\nE 8 1 1 0 0 0",
+    );
     for number in 0..400 {
         let mut case = drawn_case(7, number);
         case.cuts = Vec::new();
@@ -161,7 +192,8 @@ fn cuts(checks: &mut Checks) {
             case.cuts = cuts;
             let cut = walk(&case);
             let counts = (cut.bytes, cut.payload) == (whole.bytes, whole.payload);
-            let faults = cut.fault.as_ref().map(|f| f.line()) == whole.fault.as_ref().map(|f| f.line());
+            let faults =
+                cut.fault.as_ref().map(|f| f.line()) == whole.fault.as_ref().map(|f| f.line());
             let same = cut.records == whole.records && faults;
             checks.holds("cuts have no say", same && (counts || whole.ending() == 8));
         }

@@ -41,7 +41,10 @@ fn reached_but_refused(checks: &mut Checks) {
         }
     }
     checks.holds("shift 63 is reached", State::of(&walk).shift == 63);
-    checks.holds("shift 63 is fit, not consistent", fit(&walk) && !consistent(&walk));
+    checks.holds(
+        "shift 63 is fit, not consistent",
+        fit(&walk) && !consistent(&walk),
+    );
 }
 
 fn done_state() -> State {
@@ -54,14 +57,25 @@ fn done_state() -> State {
 fn refused_header(checks: &mut Checks) {
     let mut header = whole().header();
     header.length = 100;
-    checks.holds("the Rust takes a header that Start refuses", consistent(&by_hand(&header)));
+    checks.holds(
+        "the Rust takes a header that Start refuses",
+        consistent(&by_hand(&header)),
+    );
     let asked = [Call::Consistent, Call::Fit, Call::Request, Call::EndOfInput];
     let none = [&[Call::Start(header)][..], &asked].concat();
     checks.prints("a refused start", &said(&none), "X 2 0, -, -, -, -");
     let forged = [&[Call::Take(header, done_state())][..], &asked].concat();
-    checks.prints("a state with such a header", &said(&forged), "W, 0, 0, X 19, X 19");
+    checks.prints(
+        "a state with such a header",
+        &said(&forged),
+        "W, 0, 0, X 19, X 19",
+    );
     header.count = 7;
-    checks.prints("seven locators", &said(&[Call::Start(header), Call::Request]), "X 1 7, -");
+    checks.prints(
+        "seven locators",
+        &said(&[Call::Start(header), Call::Request]),
+        "X 1 7, -",
+    );
 }
 
 fn first_failure(checks: &mut Checks) {
@@ -74,7 +88,11 @@ fn first_failure(checks: &mut Checks) {
         Call::Request,
         Call::EndOfInput,
     ];
-    checks.prints("locator 0 under 38", &said(&calls), "W, 0, X 7 0, X 7 0, X 7 0");
+    checks.prints(
+        "locator 0 under 38",
+        &said(&calls),
+        "W, 0, X 7 0, X 7 0, X 7 0",
+    );
 }
 
 /// An object's state behind the whole case's map.
@@ -96,38 +114,72 @@ fn size_without_end(checks: &mut Checks) {
         size: u32::MAX,
         ..object_state()
     };
-    let calls = [Call::Take(header, state), Call::Consistent, Call::Fit, Call::Request];
+    let calls = [
+        Call::Take(header, state),
+        Call::Consistent,
+        Call::Fit,
+        Call::Request,
+    ];
     checks.prints("size 2^32 - 1 in one word", &said(&calls), "W, 1, 0, X 19");
-    let fitting = State { size: 32_767, ..state };
-    let calls = [Call::Take(header, fitting), Call::Consistent, Call::Fit, Call::Request];
-    checks.prints("size 32,767 in one word", &said(&calls), "W, 1, 1, D 202 32767");
+    let fitting = State {
+        size: 32_767,
+        ..state
+    };
+    let calls = [
+        Call::Take(header, fitting),
+        Call::Consistent,
+        Call::Fit,
+        Call::Request,
+    ];
+    checks.prints(
+        "size 32,767 in one word",
+        &said(&calls),
+        "W, 1, 1, D 202 32767",
+    );
 }
 
-/// The places where the Rust's sums pass 64 bits: the exact answer is no.
-fn wrapped_sums(checks: &mut Checks) {
-    let header = whole().header();
-    let mut wraps = |what: &str, state: State| {
-        let walk = forge(&header, &state).expect("Start takes the whole case");
-        checks.holds(&format!("{what}: a sum wraps"), sums_wrap(&walk));
-        checks.holds(&format!("{what}: not consistent"), !consistent(&walk));
-        checks.holds(&format!("{what}: not fit"), !fit(&walk));
-    };
-    let blank = done_state();
-    let entry = State {
-        stage: 4,
-        len: 3,
-        ..blank
-    };
-    for below in 1..=4 {
-        let chunk = u64::MAX - below + 1;
-        wraps("stage Chunk", State { stage: 3, chunk, ..blank });
+/// The places where the Rust's sums pass 64 bits.
+fn wrapping_states() -> Vec<State> {
+    let (done, object) = (done_state(), object_state());
+    let mut states = vec![State {
+        object: u64::MAX - 1,
+        loc: u64::MAX - 1,
+        ..object
+    }];
+    for below in 0..4 {
+        let chunk = u64::MAX - below;
+        states.push(State {
+            stage: 3,
+            chunk,
+            ..done
+        });
     }
     for chunk in [u64::MAX, u64::MAX - 1] {
-        wraps("stage Entry", State { chunk, at: chunk.wrapping_add(2), ..entry });
-        wraps("stage Object", State { chunk, len: 3, ..object_state() });
+        let len = 3;
+        states.push(State {
+            stage: 4,
+            chunk,
+            len,
+            at: chunk.wrapping_add(2),
+            ..done
+        });
+        states.push(State {
+            chunk,
+            len,
+            ..object
+        });
     }
-    let far = u64::MAX - 1;
-    wraps("an object at the top", State { object: far, loc: far, ..object_state() });
+    states
+}
+
+/// There the exact answer is no.
+fn wrapped_sums(checks: &mut Checks) {
+    for state in wrapping_states() {
+        let walk = forge(&whole().header(), &state).expect("Start takes the whole case");
+        checks.holds(&format!("a sum wraps: {state:?}"), sums_wrap(&walk));
+        checks.holds(&format!("not consistent: {state:?}"), !consistent(&walk));
+        checks.holds(&format!("not fit: {state:?}"), !fit(&walk));
+    }
 }
 
 fn calls(checks: &mut Checks) {
@@ -181,7 +233,13 @@ fn fit_is_sound(checks: &mut Checks) {
         let piece = some_bytes(&mut rng, &header, &walk, demand.len);
         let refused = walk.feed(demand.offset, &piece).is_err();
         let failed = failure(&walk).is_some();
-        checks.holds("a piece that is asked for fails or is taken", failed || !refused);
-        checks.holds(&format!("fit stays: {state:?} {header:?}"), failed || fit(&walk));
+        checks.holds(
+            "a piece that is asked for fails or is taken",
+            failed || !refused,
+        );
+        checks.holds(
+            &format!("fit stays: {state:?} {header:?}"),
+            failed || fit(&walk),
+        );
     }
 }

@@ -9,7 +9,10 @@ use crate::streaming::door::{RecordFormat, prologue};
 
 pub fn check(checks: &mut Checks) {
     let rows = crc_form::table().map(|text| text.lines().count());
-    checks.holds("the table read and the table derived are one", rows == Ok(2048));
+    checks.holds(
+        "the table read and the table derived are one",
+        rows == Ok(2048),
+    );
     checksums(checks);
     openings(checks);
     deltas(checks);
@@ -33,7 +36,10 @@ fn openings(checks: &mut Checks) {
         (&wide, R2000, Some((19, 47))),
     ];
     for (head, format, said) in rows {
-        checks.holds(&format!("opening {head:x?}"), prologue(head, format) == said);
+        checks.holds(
+            &format!("opening {head:x?}"),
+            prologue(head, format) == said,
+        );
     }
 }
 
@@ -42,7 +48,10 @@ fn openings(checks: &mut Checks) {
 fn deltas(checks: &mut Checks) {
     let walk = |entries: &[u8]| {
         let lines = printed(&sketch(&[], &super::sketch::one_chunk(entries), &[]));
-        lines.lines().find(|l| l.starts_with('X')).map(str::to_string)
+        lines
+            .lines()
+            .find(|l| l.starts_with('X'))
+            .map(str::to_string)
     };
     let mut row = |what: &str, entries: &[u8], said: &str| {
         checks.prints(what, &walk(entries).unwrap_or_default(), said);
@@ -66,8 +75,16 @@ fn sizes(checks: &mut Checks) {
         let lines = printed(&sketch(&record, &map, &[]));
         lines.lines().nth(2).unwrap_or_default().to_string()
     };
-    checks.prints("size 00 80 01 00", &size_of([0, 0x80, 1, 0], 32_768), "O 5 146 32768 0");
-    checks.prints("size 03 80 00 00", &size_of([3, 0x80, 0, 0], 3), "O 5 146 3 0");
+    checks.prints(
+        "size 00 80 01 00",
+        &size_of([0, 0x80, 1, 0], 32_768),
+        "O 5 146 32768 0",
+    );
+    checks.prints(
+        "size 03 80 00 00",
+        &size_of([3, 0x80, 0, 0], 3),
+        "O 5 146 3 0",
+    );
     checks.prints("size 01 80 00 00", &size_of([1, 0x80, 0, 0], 1), "X 16 5");
     checks.holds("the final chunk", chunk(&[]) == [0x00, 0x02, 0x01, 0xd0]);
 }
