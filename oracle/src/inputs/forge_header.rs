@@ -30,12 +30,12 @@ pub fn bounds(header: &Header) -> Bounds {
     }
 }
 
-/// A header whose units lie anywhere, with a map that has room for chunks.
+/// A header whose units lie anywhere, mostly with room for everything.
 pub fn header(rng: &mut Rng) -> Header {
     let length = match rng.below(8) {
-        0 => rng.pick(&[u64::MAX, u64::MAX - 1, 1 << 63, (1 << 63) + 1]),
-        1..4 => rng.pick(&[1 << 33, 1 << 34, 1 << 40]),
-        _ => rng.between(200, 60_000) as u64,
+        0..2 => rng.pick(&[u64::MAX, u64::MAX - 1, (1 << 63) + 1, (1 << 63) + 3]),
+        2..4 => rng.pick(&[1 << 33, 1 << 34, 1 << 40]),
+        _ => rng.between(8000, 60_000) as u64,
     };
     let mut locators = [Locator::default(); 6];
     for l in &mut locators {
@@ -45,11 +45,9 @@ pub fn header(rng: &mut Rng) -> Header {
     for number in 0..3 {
         let size = unit_size(rng, number, length);
         let last = (length - u64::from(size)).min(u32::MAX.into()) as usize;
-        let offset = if rng.one_in(4) {
-            last
-        } else {
-            rng.between(0, last)
-        };
+        let low = last.min(100);
+        let plain = rng.between(low, last);
+        let offset = rng.pick(&[plain, plain, plain, 0, low, last]);
         locators[usize::from(number)] = Locator {
             number,
             offset: offset as u32,
@@ -66,10 +64,10 @@ pub fn header(rng: &mut Rng) -> Header {
 
 fn unit_size(rng: &mut Rng, number: u8, length: u64) -> u32 {
     let most = length.min(u32::MAX.into()) as usize;
-    let size = match (number, rng.below(6)) {
+    let size = match (number, rng.below(8)) {
         (2, 0) => rng.between(0, 12),
-        (2, 1..5) => rng.between(4, 5000),
-        (2, _) => most,
+        (2, 1) => most,
+        (2, _) => rng.between(100, 5000),
         (_, 0) => rng.pick(&[37, 38, 39]),
         (_, 1) => most,
         _ => rng.between(38, 120),

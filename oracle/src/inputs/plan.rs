@@ -100,14 +100,15 @@ impl Plan {
         plan
     }
 
-    /// A chunk that is full, 2,034 bytes: 1,015 entries for one record.
+    /// A chunk that is full: 1,015 entries for one record, of size 2,034 or
+    /// next to it.
     pub fn full_chunk(rng: &mut Rng) -> Self {
         let mut plan = Self::random(rng, Scale::Small);
         plan.chunks.clear();
         plan.records.clear();
         plan.map_last = true;
         let record = plan.add_record(rng, 7);
-        let widths = rng.pick(&[[1, 3], [2, 2]]);
+        let widths = rng.pick(&[[1, 3], [2, 2], [1, 2], [2, 3], [1, 4]]);
         let first = Entry {
             step: 7,
             target: Target::Record(record),

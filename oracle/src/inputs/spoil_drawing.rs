@@ -94,7 +94,9 @@ pub fn section_crc(drawing: &mut Drawing, rng: &mut Rng) {
 pub fn chunk(drawing: &mut Drawing, rng: &mut Rng) {
     let number = rng.below(drawing.chunks.len());
     let at = drawing.chunks[number];
-    let size = rng.pick(&[0, 1, 2, 2035, 2036, 0x7fff, 0xffff, 2034]);
+    let map_end = drawing.units[2].offset + drawing.units[2].size;
+    let to_end = (map_end - at as u32) as u16;
+    let size = rng.pick(&[0, 1, 2, 2034, 2035, 0xffff, to_end, to_end - 1, to_end - 2]);
     match rng.below(6) {
         0 => locator(drawing, 2).size = rng.below(4) as u32,
         1 => locator(drawing, 2).size -= 4,
