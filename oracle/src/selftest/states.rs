@@ -3,8 +3,9 @@
 
 use super::Checks;
 use super::sketch::{OBJECT, one_chunk, sketch, whole};
-use crate::calls::Call;
-use crate::inputs::{Rng, forged, some_bytes};
+use crate::Kind;
+use crate::calls::{Call, parse};
+use crate::inputs::{Rng, forged, input, some_bytes};
 use crate::replay::Judge;
 use crate::streaming::door::{
     State, by_hand, consistent, exactly_consistent, failure, fit, forge, sums_wrap,
@@ -19,6 +20,7 @@ pub fn check(checks: &mut Checks) {
     calls(checks);
     exact_sums(checks);
     fit_is_sound(checks);
+    fit_is_not_asked_too_late(checks);
 }
 
 /// The answers to these calls, by a judge that has heard nothing before.
@@ -241,5 +243,18 @@ fn fit_is_sound(checks: &mut Checks) {
             &format!("fit stays: {state:?} {header:?}"),
             failed || fit(&walk),
         );
+    }
+}
+
+/// No generated input asks `fit` while a failure is held.
+fn fit_is_not_asked_too_late(checks: &mut Checks) {
+    for file in 1..200 {
+        let mut judge = Judge::new();
+        let calls = parse(&input(Kind::Replay, 13, file)).unwrap_or_default();
+        for call in &calls {
+            let late = matches!(call, Call::Fit) && judge.failed();
+            checks.holds("fit is asked of a walk without a failure", !late);
+            judge.answer(call);
+        }
     }
 }
