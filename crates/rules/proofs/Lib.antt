@@ -12,3 +12,7 @@ pub mod Told
 pub mod AgreeSection
 pub mod AgreeObject
 pub mod Agree
+pub mod Half
+pub mod Enough
+pub mod PlainKept
+pub mod Stalls

@@ -9,3 +9,4 @@ pub mod Map
 pub mod Rules
 pub mod PlainList
 pub mod LastByte
+pub mod Stall
