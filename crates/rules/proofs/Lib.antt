@@ -16,3 +16,6 @@ pub mod Half
 pub mod Enough
 pub mod PlainKept
 pub mod Stalls
+pub mod Kept
+pub mod LastByte
+pub mod Tidy
