@@ -19,3 +19,5 @@ pub mod Stalls
 pub mod Kept
 pub mod LastByte
 pub mod Tidy
+pub mod Taken
+pub mod BytesBound
