@@ -31,6 +31,8 @@ use Rattle.rules.specs.Map.{chunkSize, chunkStored, chunkComputed, chunk
 use Rattle.rules.specs.Rules.{rules}
 use Rattle.rules.specs.LastByte.{fieldBytesOf, lastByteOf}
 use Rattle.rules.proofs.Section.{IsSection, vars, classes, length-start, length-end}
+use Rattle.rules.proofs.Entry.{Within}
+use Rattle.rules.proofs.Map.{chunk-within}
 
 -- A property of accounts, where so much payload was taken of the unit in hand, and one of turns that are taken at a place.
 pub record Kept (src : List ℕ) (P : (taken : ℕ) → Account → Type 0) (Q : (at taken : ℕ) → Turn → Type 0) : Type 0 where
@@ -43,11 +45,11 @@ pub record Kept (src : List ℕ) (P : (taken : ℕ) → Account → Type 0) (Q :
   pub sections : (r : SectionRecord) (at : ℕ) (a : Account) → at ≡ lastByteOf src (section r) → P 0 a → Q at (r .size) (go (answer.Step (step.Section r)) a)
   pub objects : (r : ObjectRecord) (at : ℕ) (a : Account) → at ≡ lastByteOf src (object r) → P 0 a → Q at (r .size) (go (answer.Step (step.Object r)) a)
   -- demands
-  pub spans : (at n end taken : ℕ) (t : Turn) → at + n ≡ suc end → Q end taken t → P taken (span src at n framing t)
+  pub spans : (at n end taken : ℕ) (t : Turn) → at + n ≡ end → Q end taken t → P taken (span src at (suc n) framing t)
   pub passes : (at n taken : ℕ) (a : Account) → P taken a → P taken (passing src at n framing a)
   pub pays : (p : Part) (at n : ℕ) (a : Account) → P n a → P 0 (passing src at n (payload p) a)
-  pub spells : (at end taken : ℕ) (ws : List ℕ) (f : Fault) (t : Turn) → at + length ws ≡ suc end → Q end taken t → P taken (spell src at ws f t)
-  pub goes-one-by-one : (at n taken : ℕ) (t : Turn) → ((end : ℕ) → Q end taken t) → P taken (oneByOne src at n t)
+  pub spells : (at n end taken : ℕ) (ws : List ℕ) (f : Fault) (t : Turn) → length ws ≡ suc n → at + n ≡ end → Q end taken t → P taken (spell src at ws f t)
+  pub goes-one-by-one : (at n taken : ℕ) (t : Turn) → ((end : ℕ) → Q end taken t) → P taken (oneByOne src at (suc n) t)
 
 module _ (src : List ℕ) (P : (taken : ℕ) → Account → Type 0) (Q : (at taken : ℕ) → Turn → Type 0) (kept : Kept src P Q) where
   -- ---- a section
@@ -60,16 +62,16 @@ module _ (src : List ℕ) (P : (taken : ℕ) → Account → Type 0) (Q : (at ta
     data-keeps : (size : ℕ) → P 0 (askSectionData src p start total next size)
     unfolding askSectionData sectionCrcTurn askSectionEnd
     data-keeps size =
-        kept .pays p _ size _ (kept .spans _ 2 (start + 21 + size) size _ (omega arith)
+        kept .pays p _ size _ (kept .spans _ 1 (start + 21 + size) size _ (omega arith)
         (in-both (Q (start + 21 + size) size) (eqb (sectionStored src start size) (sectionComputed src start size))
-        (λ e. kept .going _ size _ (kept .spells _ (start + 37 + size) size (endSentinel p) _ _ (omega (arith, length-end is)) (section-turn size)))
+        (λ e. kept .going _ size _ (kept .spells _ 15 (start + 37 + size) size (endSentinel p) _ _ (length-end is) (omega arith) (section-turn size)))
         (λ e. kept .failing _ size _)))
 
     section-keeps : P 0 (askSection src p start total next)
     unfolding askSection sectionSizeTurn
     section-keeps =
         in-both (P 0) (leb frame total)
-        (λ e. kept .spells _ (start + 15) 0 (startSentinel p) _ _ (omega (arith, length-start is)) (kept .going _ 0 _ (kept .spans _ 4 (start + 19) 0 _ (omega arith)
+        (λ e. kept .spells _ 15 (start + 15) 0 (startSentinel p) _ _ (length-start is) refl (kept .going _ 0 _ (kept .spans _ 3 (start + 19) 0 _ (omega arith)
         (in-both (Q (start + 19) 0) (eqb (frame + sectionSize src start) total)
         (λ f. kept .going _ 0 _ (data-keeps (sectionSize src start)))
         (λ f. kept .failing _ 0 _)))))
@@ -108,7 +110,7 @@ module _ (src : List ℕ) (P : (taken : ℕ) → Account → Type 0) (Q : (at ta
     size-turn at (sized n size) e =
         in-both (Q at 0) (ltb 0 size)
         (λ f. in-both (Q at 0) (mayEnd h location (location + n + size + 2))
-        (λ g. kept .going at 0 _ (kept .pays Object _ size _ (kept .spans _ 2 (location + n + size + 1) size _ (omega arith)
+        (λ g. kept .going at 0 _ (kept .pays Object _ size _ (kept .spans _ 1 (location + n + size + 1) size _ (omega arith)
         (verdict-turn _ size (verdict h src handle location n size) (verdict-ends n size e)))))
         (λ g. kept .failing at 0 _))
         (λ f. kept .failing at 0 _)
@@ -117,28 +119,30 @@ module _ (src : List ℕ) (P : (taken : ℕ) → Account → Type 0) (Q : (at ta
     unfolding objectTurn askObject
     object-turn at =
         in-both (Q at 0) (mayStart h location)
-        (λ e. kept .going at 0 _ (kept .spans _ 2 (location + 1) 0 _ (omega arith)
+        (λ e. kept .going at 0 _ (kept .spans _ 1 (location + 1) 0 _ (omega arith)
         (in-both (Q (location + 1) 0) (isLast (firstWord src location))
         (λ f. size-turn _ (sizeAt src location) refl)
-        (λ f. kept .going _ 0 _ (kept .spans _ 2 (location + 3) 0 _ (omega arith) (size-turn _ (sizeAt src location) refl))))))
+        (λ f. kept .going _ 0 _ (kept .spans _ 1 (location + 3) 0 _ (omega arith) (size-turn _ (sizeAt src location) refl))))))
         (λ e. kept .failing at 0 _)
 
   -- ---- the map
 
   module _ (h : FlatHeader) where
-    entries-keep : (es : List Entry) (at : ℕ) (next : Account) → P 0 next → P 0 (askEntries h src es at next)
+    entries-keep : (es : List Entry) (room at : ℕ) (next : Account) → Within room es → P 0 next → P 0 (askEntries h src es at next)
     unfolding askEntries
-    entries-keep [] at next c = c
-    entries-keep (leads bytes handle location ∷ more) at next c =
-        kept .goes-one-by-one at bytes 0 _ (object-turn h handle location _ (entries-keep more (at + bytes) next c))
-    entries-keep (refused bytes ∷ more) at next c = kept .goes-one-by-one at bytes 0 _ (λ end. kept .failing end 0 _)
+    entries-keep [] room at next w c = c
+    entries-keep (leads zero handle location ∷ more) room at next w c = absurd (omega (arith, w .0))
+    entries-keep (leads (suc n) handle location ∷ more) room at next w c =
+        kept .goes-one-by-one at n 0 _ (object-turn h handle location _ (entries-keep more (room - suc n) (at + suc n) next (w .2) c))
+    entries-keep (refused zero ∷ more) room at next w c = absurd (omega (arith, w .0))
+    entries-keep (refused (suc n) ∷ more) room at next w c = kept .goes-one-by-one at n 0 _ (λ end. kept .failing end 0 _)
 
     chunk-turn : (at chunk size : ℕ) (next : Account) → P 0 next → Q at 0 (chunkTurn h src chunk size next)
     unfolding chunkTurn
     chunk-turn at chunk size next c =
         in-both (Q at 0) (eqb size 2)
         (λ e. in-both (Q at 0) (eqb (chunk + 4) (mapEnd h)) (λ f. kept .finishing at) (λ f. kept .failing at 0 _))
-        (λ e. kept .going at 0 _ (entries-keep (chunkEntries src chunk size) (chunk + 2) next c))
+        (λ e. let w = chunk-within src chunk size in kept .going at 0 _ (entries-keep (chunkEntries src chunk size) (w .0) (chunk + 2) next (w .2) c))
 
     chunks-keep : (k chunk : ℕ) → P 0 (askChunks h src k chunk)
     unfolding askChunks chunkSizeTurn chunkCrcTurn
@@ -146,9 +150,9 @@ module _ (src : List ℕ) (P : (taken : ℕ) → Account → Type 0) (Q : (at ta
     chunks-keep (suc k) chunk =
         let size = chunkSize src chunk in
         in-both (P 0) (leb (chunk + 4) (mapEnd h))
-        (λ e. kept .spans _ 2 (chunk + 1) 0 _ (omega arith)
+        (λ e. kept .spans _ 1 (chunk + 1) 0 _ (omega arith)
         (in-both (Q (chunk + 1) 0) (chunkFits h chunk size)
-        (λ f. kept .going _ 0 _ (kept .passes _ (size - 2) 0 _ (kept .spans _ 2 (chunk + size + 1) 0 _ (omega arith)
+        (λ f. kept .going _ 0 _ (kept .passes _ (size - 2) 0 _ (kept .spans _ 1 (chunk + size + 1) 0 _ (omega arith)
         (in-both (Q (chunk + size + 1) 0) (eqb (chunkStored src chunk size) (chunkComputed src chunk size))
         (λ g. chunk-turn _ chunk size _ (chunks-keep k (chunk + size + 2)))
         (λ g. kept .failing _ 0 _)))))

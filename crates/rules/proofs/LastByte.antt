@@ -39,35 +39,32 @@ module _ (src : List ℕ) where
   last-byte : (at left : ℕ) (s : Answer) (a : Account) → Placed src at left (committedIn s) → CommitsLast src a → CommitsLast src (askByte src at left s a)
   last-byte at left s a p c = in-both (CommitsLast src) (ltb at (length src)) (λ e. each p c) (λ e. none-left)
 
-  last-span : (at n end : ℕ) (plain : Answer) (t : Turn) → Quiet plain → at + n ≡ suc end → Turned end t → CommitsLast src (span src at n plain t)
+  last-span : (at n end : ℕ) (plain : Answer) (t : Turn) → Quiet plain → at + n ≡ end → Turned end t → CommitsLast src (span src at (suc n) plain t)
   unfolding span
-  last-span at zero end plain t q e k = k .behind
-  last-span at (suc zero) end plain t q e k =
-      let p : at ≡ end = omega arith in last-byte at 1 (t .says) (t .rest) (rw p (k .placed)) (k .behind)
-  last-span at (suc (suc n)) end plain t q e k =
-      last-byte at (suc (suc n)) plain _ (quiet-placed _ _ plain q) (last-span (suc at) (suc n) end plain t q (omega arith) k)
+  last-span at zero end plain t q e k = let p : at ≡ end = omega arith in last-byte at 1 (t .says) (t .rest) (rw p (k .placed)) (k .behind)
+  last-span at (suc n) end plain t q e k =
+      last-byte at (suc (suc n)) plain _ (quiet-placed _ _ plain q) (last-span (suc at) n end plain t q (omega arith) k)
 
   last-passing : (at n : ℕ) (plain : Answer) (a : Account) → Quiet plain → CommitsLast src a → CommitsLast src (passing src at n plain a)
   unfolding span
   last-passing at zero plain a q c = c
-  last-passing at (suc n) plain a q c = last-span at (suc n) (at + n) plain (go plain a) q (omega arith) (quiet-turned _ plain a q c)
+  last-passing at (suc n) plain a q c = last-span at n (at + n) plain (go plain a) q refl (quiet-turned _ plain a q c)
 
-  last-oneByOne : (at n : ℕ) (t : Turn) → ((end : ℕ) → Turned end t) → CommitsLast src (oneByOne src at n t)
+  last-oneByOne : (at n : ℕ) (t : Turn) → ((end : ℕ) → Turned end t) → CommitsLast src (oneByOne src at (suc n) t)
   unfolding oneByOne
-  last-oneByOne at zero t k = k 0 .behind
-  last-oneByOne at (suc zero) t k = last-byte at 1 (t .says) (t .rest) (k at .placed) (k at .behind)
-  last-oneByOne at (suc (suc n)) t k = last-byte at 1 framing _ tt (last-oneByOne (suc at) (suc n) t k)
+  last-oneByOne at zero t k = last-byte at 1 (t .says) (t .rest) (k at .placed) (k at .behind)
+  last-oneByOne at (suc n) t k = last-byte at 1 framing _ tt (last-oneByOne (suc at) n t k)
 
-  last-spell : (at end : ℕ) (ws : List ℕ) (f : Fault) (t : Turn) → at + length ws ≡ suc end → Turned end t → CommitsLast src (spell src at ws f t)
+  last-spell : (at n end : ℕ) (ws : List ℕ) (f : Fault) (t : Turn) → length ws ≡ suc n → at + n ≡ end → Turned end t → CommitsLast src (spell src at ws f t)
   unfolding spell
-  last-spell at end [] f t e k = k .behind
-  last-spell at end (w ∷ []) f t e k =
+  last-spell at n end [] f t l e k = absurd (omega arith)
+  last-spell at n end (w ∷ []) f t l e k =
       let p : at ≡ end = omega arith in
       in-both (CommitsLast src) (eqb (getD src at 0) w)
       (λ g. last-byte at 1 (t .says) (t .rest) (rw p (k .placed)) (k .behind)) (λ g. last-byte at 1 _ _ tt none-left)
-  last-spell at end (w ∷ v ∷ vs) f t e k =
+  last-spell at n end (w ∷ v ∷ vs) f t l e k =
       in-both (CommitsLast src) (eqb (getD src at 0) w)
-      (λ g. last-byte at (suc (suc (length vs))) framing _ tt (last-spell (suc at) end (v ∷ vs) f t (omega arith) k))
+      (λ g. last-byte at (suc (suc (length vs))) framing _ tt (last-spell (suc at) (length vs) end (v ∷ vs) f t refl (omega arith) k))
       (λ g. last-byte at (suc (suc (length vs))) _ _ tt none-left)
 
   last-kept : Kept src (λ taken a. CommitsLast src a) (λ at taken t. Turned at t)
@@ -81,7 +78,7 @@ module _ (src : List ℕ) where
     spans = λ at n end taken t e k. last-span at n end framing t tt e k;
     passes = λ at n taken a c. last-passing at n framing a tt c;
     pays = λ p at n a c. last-passing at n (payload p) a tt c;
-    spells = λ at end taken ws f t e k. last-spell at end ws f t e k;
+    spells = λ at n end taken ws f t l e k. last-spell at n end ws f t l e k;
     goes-one-by-one = λ at n taken t k. last-oneByOne at n t k;
   }
 

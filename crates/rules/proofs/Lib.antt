@@ -21,3 +21,4 @@ pub mod LastByte
 pub mod Tidy
 pub mod Taken
 pub mod BytesBound
+pub mod Payload

@@ -5,7 +5,7 @@ use Rattle.streaming.specs.declared.FlatHeader.{FlatHeader}
 use Rattle.account.specs.Account.{framing, payload}
 use Rattle.account.specs.Asking.{go}
 use Rattle.account.specs.Tidy.{Tidy, tidy-over}
-use Rattle.account.proofs.Tidying.{tidy-bad, tidy-span-any, tidy-oneByOne-any, tidy-spell-any}
+use Rattle.account.proofs.Tidying.{tidy-bad, tidy-span, tidy-span-any, tidy-oneByOne, tidy-spell-any}
 use Rattle.rules.specs.Rules.{rules}
 use Rattle.rules.proofs.Kept.{Kept, rules-keep}
 
@@ -17,11 +17,11 @@ tidy-kept src = record {
   going = λ at taken a k. k;
   sections = λ r at a e k. k;
   objects = λ r at a e k. k;
-  spans = λ at n end taken t e k. tidy-span-any at n framing t tt k;
+  spans = λ at n end taken t e k. tidy-span at n framing t tt λ in-source. k;
   passes = λ at n taken a k. tidy-span-any at n framing (go framing a) tt k;
   pays = λ p at n a k. tidy-span-any at n (payload p) (go (payload p) a) tt k;
-  spells = λ at end taken ws f t e k. tidy-spell-any at ws f t k;
-  goes-one-by-one = λ at n taken t k. tidy-oneByOne-any at n t (k 0);
+  spells = λ at n end taken ws f t l e k. tidy-spell-any at ws f t k;
+  goes-one-by-one = λ at n taken t k. tidy-oneByOne at n t λ in-source. k 0;
 }
 
 -- for every header and every source

@@ -10,3 +10,4 @@ pub mod Rules
 pub mod PlainList
 pub mod LastByte
 pub mod Stall
+pub mod Payload
