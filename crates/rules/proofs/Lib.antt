@@ -22,3 +22,4 @@ pub mod Tidy
 pub mod Taken
 pub mod BytesBound
 pub mod Payload
+pub mod Prologue
