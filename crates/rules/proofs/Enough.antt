@@ -39,7 +39,8 @@ unfolding followed
 followed-alike room (leads bytes handle location) f g s k = ap (λ es. leads bytes handle location ∷ es) (k bytes handle location (omega (arith, s .0)))
 followed-alike room (refused bytes) f g s k = refl
 
-entries-settle : (j k handle location : ℕ) (bytes : List ℕ) → k ≤ j → length bytes ≤ k → entriesFrom j handle location bytes ≡ entriesFrom k handle location bytes
+entries-settle : (j k handle location : ℕ) (bytes : List ℕ) → k ≤ j → length bytes ≤ k
+    → entriesFrom j handle location bytes ≡ entriesFrom k handle location bytes
 unfolding entriesFrom
 entries-settle zero zero handle location bytes l e = refl
 entries-settle (suc j) zero handle location [] l e = refl

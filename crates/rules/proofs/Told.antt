@@ -91,7 +91,8 @@ module _ (src : List ℕ) where
       rw (drop-cons src at 0 (omega arith), lt-ltb at (length src) (omega arith)) (both (eqb (getD src at 0) w) (spell-told (suc at) v vs f t (omega arith)))
     where
       both : (b : Bool) → told (spell src (suc at) (v ∷ vs) f t) ≡ require (same (part src (suc at) (suc (length vs))) (v ∷ vs)) f (toldTurn t)
-          → told (if b then ask at (suc (suc (length vs))) framing (spell src (suc at) (v ∷ vs) f t) else ask at (suc (suc (length vs))) (faulted f) (over (broken f)))
+          → told (if b then ask at (suc (suc (length vs))) framing (spell src (suc at) (v ∷ vs) f t)
+          else ask at (suc (suc (length vs))) (faulted f) (over (broken f)))
           ≡ require (b && same (part src (suc at) (suc (length vs))) (v ∷ vs)) f (toldTurn t)
       both true e = told-ask _ _ _ _ ∙ e
       both false e = told-ask _ _ _ _ ∙ told-bad f
