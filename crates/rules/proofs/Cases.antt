@@ -1,7 +1,6 @@
 -- Document 01's whole case, damaged copies of it, and a source that ends before a second size word: what the rules say, by computation.
 use Prim.Native.Nat.{ℕ}
 use mathlib.Core.List.{List, [], _∷_, _++_}
-use mathlib.Core.Option.{none}
 use mathlib.Core.Path.{_≡_, refl}
 use lib.ListN.{replicate, set}
 use Rattle.streaming.specs.Record.{Record, section, object}

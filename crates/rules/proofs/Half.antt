@@ -1,5 +1,5 @@
 -- A map of S bytes leads to at most S/2 object records.
-use Prim.Native.Nat.{ℕ, _+_, _*_, _≤_}
+use Prim.Native.Nat.{ℕ, _*_, _≤_}
 use mathlib.Core.List.{List}
 use mathlib.Core.Path.{ap}
 use native.Mathlib.Omega.{arith}
@@ -10,7 +10,7 @@ use Rattle.rules.specs.Source.{Of}
 use Rattle.rules.specs.Rules.{records}
 use Rattle.rules.specs.PlainList.{Listing}
 use Rattle.rules.proofs.PlainKept.{PlainKept, plain-keeps}
-use Rattle.rules.proofs.Agree.{agree}
+use Rattle.rules.proofs.PlainList.{agree}
 
 -- twice the objects of a listing are at most n
 record Half (n : ℕ) (l : Listing) : Type 0 where

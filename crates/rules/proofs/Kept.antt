@@ -5,7 +5,6 @@ use mathlib.Core.Option.{Option, none, some}
 use mathlib.Core.Path.{_≡_, refl, sym, ap}
 use native.Mathlib.Omega.{arith}
 use lib.ListN.{length, take}
-use lib.Dec.{ltb, leb, eqb}
 use Rattle.streaming.specs.Record.{section, object}
 use Rattle.streaming.specs.declared.Part.{Part}
 use Rattle.streaming.specs.declared.Part.the-variants.{HeaderVars, Classes, Object}
@@ -20,14 +19,14 @@ use Rattle.streaming.proofs.Choose.{in-both}
 use Rattle.account.specs.Statement.{part}
 use Rattle.account.specs.Account.{Account, over, framing, payload, finished, broken}
 use Rattle.account.specs.Asking.{Turn, go, bad, span, passing, oneByOne, spell}
-use Rattle.rules.specs.Header.{mapStart, mapSize, mapEnd, isR2000}
-use Rattle.rules.specs.Section.{startSentinel, endSentinel, frame, sectionSize, sectionStored, sectionComputed, sectionRecord}
+use Rattle.rules.specs.Header.{mapStart, mapSize, isR2000}
+use Rattle.rules.specs.Section.{startSentinel, endSentinel, sectionSize, sectionRecord}
 use Rattle.rules.specs.Section.{askSectionEnd, sectionCrcTurn, askSectionData, sectionSizeTurn, askSection}
 use Rattle.rules.specs.Entry.{Entry, leads, refused}
 use Rattle.rules.specs.Prologue.{Prologue, prologueOf}
-use Rattle.rules.specs.Object.{Size, sized, unending, isLast, Verdict, holds, fails, mayStart, mayEnd, firstWord, sizeAt, objectComputed, objectStored}
+use Rattle.rules.specs.Object.{Size, sized, unending, Verdict, holds, fails, sizeAt}
 use Rattle.rules.specs.Object.{objectRecord, named, verdict, verdictTurn, askObjectData, objectSizeTurn, askObject, objectTurn}
-use Rattle.rules.specs.Map.{chunkSize, chunkStored, chunkComputed, chunkEntries, chunkFits, askEntries, chunkTurn, chunkCrcTurn, chunkSizeTurn, askChunks}
+use Rattle.rules.specs.Map.{chunkSize, chunkEntries, askEntries, chunkTurn, chunkCrcTurn, chunkSizeTurn, askChunks}
 use Rattle.rules.specs.Rules.{rules}
 use Rattle.rules.specs.LastByte.{fieldBytesOf, lastByteOf}
 use Rattle.rules.proofs.Section.{IsSection, vars, classes, length-start, length-end}
@@ -63,16 +62,16 @@ module _ (src : List ℕ) (P : (taken : ℕ) → Account → Type 0) (Q : (at ta
     unfolding askSectionData sectionCrcTurn askSectionEnd
     data-keeps size =
         kept .pays p _ size _ (kept .spans _ 1 (start + 21 + size) size _ (omega arith)
-        (in-both (Q (start + 21 + size) size) (eqb (sectionStored src start size) (sectionComputed src start size))
+        (in-both (Q (start + 21 + size) size) _
         (λ e. kept .going _ size _ (kept .spells _ 15 (start + 37 + size) size (endSentinel p) _ _ (length-end is) (omega arith) (section-turn size)))
         (λ e. kept .failing _ size _)))
 
     section-keeps : P 0 (askSection src p start total next)
     unfolding askSection sectionSizeTurn
     section-keeps =
-        in-both (P 0) (leb frame total)
+        in-both (P 0) _
         (λ e. kept .spells _ 15 (start + 15) 0 (startSentinel p) _ _ (length-start is) refl (kept .going _ 0 _ (kept .spans _ 3 (start + 19) 0 _ (omega arith)
-        (in-both (Q (start + 19) 0) (eqb (frame + sectionSize src start) total)
+        (in-both (Q (start + 19) 0) _
         (λ f. kept .going _ 0 _ (data-keeps (sectionSize src start)))
         (λ f. kept .failing _ 0 _)))))
         (λ e. kept .stopped 0 _)
@@ -90,13 +89,13 @@ module _ (src : List ℕ) (P : (taken : ℕ) → Account → Type 0) (Q : (at ta
       unfolding named lastByteOf objectRecord
       named-ends none = tt
       named-ends (some p) =
-          in-both (Ends (location + n + size + 1) size) (eqb (p .handle) handle)
+          in-both (Ends (location + n + size + 1) size) _
           (λ e. (sym (ap (λ s. location + fieldBytesOf s + size + 1) field), refl)) (λ e. tt)
 
       verdict-ends : Ends (location + n + size + 1) size (verdict h src handle location n size)
       unfolding verdict
       verdict-ends =
-          in-both (Ends (location + n + size + 1) size) (eqb (objectStored src location n size) (objectComputed src location n size))
+          in-both (Ends (location + n + size + 1) size) _
           (λ e. named-ends (prologueOf (isR2000 h) (take 16 (part src (location + n) size)))) (λ e. tt)
 
     verdict-turn : (at size : ℕ) (v : Verdict) → Ends at size v → Q at size (verdictTurn h src handle location next v)
@@ -108,8 +107,8 @@ module _ (src : List ℕ) (P : (taken : ℕ) → Account → Type 0) (Q : (at ta
     unfolding objectSizeTurn askObjectData
     size-turn at unending e = kept .failing at 0 _
     size-turn at (sized n size) e =
-        in-both (Q at 0) (ltb 0 size)
-        (λ f. in-both (Q at 0) (mayEnd h location (location + n + size + 2))
+        in-both (Q at 0) _
+        (λ f. in-both (Q at 0) _
         (λ g. kept .going at 0 _ (kept .pays Object _ size _ (kept .spans _ 1 (location + n + size + 1) size _ (omega arith)
         (verdict-turn _ size (verdict h src handle location n size) (verdict-ends n size e)))))
         (λ g. kept .failing at 0 _))
@@ -118,9 +117,9 @@ module _ (src : List ℕ) (P : (taken : ℕ) → Account → Type 0) (Q : (at ta
     object-turn : (at : ℕ) → Q at 0 (objectTurn h src handle location next)
     unfolding objectTurn askObject
     object-turn at =
-        in-both (Q at 0) (mayStart h location)
+        in-both (Q at 0) _
         (λ e. kept .going at 0 _ (kept .spans _ 1 (location + 1) 0 _ (omega arith)
-        (in-both (Q (location + 1) 0) (isLast (firstWord src location))
+        (in-both (Q (location + 1) 0) _
         (λ f. size-turn _ (sizeAt src location) refl)
         (λ f. kept .going _ 0 _ (kept .spans _ 1 (location + 3) 0 _ (omega arith) (size-turn _ (sizeAt src location) refl))))))
         (λ e. kept .failing at 0 _)
@@ -140,8 +139,8 @@ module _ (src : List ℕ) (P : (taken : ℕ) → Account → Type 0) (Q : (at ta
     chunk-turn : (at chunk size : ℕ) (next : Account) → P 0 next → Q at 0 (chunkTurn h src chunk size next)
     unfolding chunkTurn
     chunk-turn at chunk size next c =
-        in-both (Q at 0) (eqb size 2)
-        (λ e. in-both (Q at 0) (eqb (chunk + 4) (mapEnd h)) (λ f. kept .finishing at) (λ f. kept .failing at 0 _))
+        in-both (Q at 0) _
+        (λ e. in-both (Q at 0) _ (λ f. kept .finishing at) (λ f. kept .failing at 0 _))
         (λ e. let w = chunk-within src chunk size in kept .going at 0 _ (entries-keep (chunkEntries src chunk size) (w .0) (chunk + 2) next (w .2) c))
 
     chunks-keep : (k chunk : ℕ) → P 0 (askChunks h src k chunk)
@@ -149,11 +148,11 @@ module _ (src : List ℕ) (P : (taken : ℕ) → Account → Type 0) (Q : (at ta
     chunks-keep zero chunk = kept .stopped 0 _
     chunks-keep (suc k) chunk =
         let size = chunkSize src chunk in
-        in-both (P 0) (leb (chunk + 4) (mapEnd h))
+        in-both (P 0) _
         (λ e. kept .spans _ 1 (chunk + 1) 0 _ (omega arith)
-        (in-both (Q (chunk + 1) 0) (chunkFits h chunk size)
+        (in-both (Q (chunk + 1) 0) _
         (λ f. kept .going _ 0 _ (kept .passes _ (size - 2) 0 _ (kept .spans _ 1 (chunk + size + 1) 0 _ (omega arith)
-        (in-both (Q (chunk + size + 1) 0) (eqb (chunkStored src chunk size) (chunkComputed src chunk size))
+        (in-both (Q (chunk + size + 1) 0) _
         (λ g. chunk-turn _ chunk size _ (chunks-keep k (chunk + size + 2)))
         (λ g. kept .failing _ 0 _)))))
         (λ f. kept .failing _ 0 _)))

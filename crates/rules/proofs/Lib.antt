@@ -4,6 +4,7 @@ pub mod Table
 pub mod Cases
 pub mod EasyToGetWrong
 pub mod Limits
+pub mod Choose
 pub mod Header
 pub mod Section
 pub mod Entry
@@ -11,9 +12,9 @@ pub mod Prologue
 pub mod Object
 pub mod Map
 pub mod Told
-pub mod AgreeSection
-pub mod AgreeObject
-pub mod Agree
+pub mod PlainSection
+pub mod PlainObject
+pub mod PlainList
 pub mod PlainKept
 pub mod Half
 pub mod Stalls
@@ -23,4 +24,4 @@ pub mod LastByte
 pub mod Tidy
 pub mod Payload
 pub mod Taken
-pub mod BytesBound
+pub mod TakenBound

@@ -19,9 +19,9 @@ use Rattle.rules.specs.PlainList.{told, plainList}
 use Rattle.rules.specs.LastByte.{CommitsLast}
 use Rattle.rules.specs.Stall.{Stall}
 use Rattle.rules.specs.Payload.{sizesOf, payloadWithin, payloadInHand}
-use Rattle.rules.proofs.Agree as Agree
+use Rattle.rules.proofs.PlainList as Agreement
 use Rattle.rules.proofs.Half as Half
-use Rattle.rules.proofs.BytesBound as BytesBound
+use Rattle.rules.proofs.TakenBound as Bound
 use Rattle.rules.proofs.LastByte as LastByte
 use Rattle.rules.proofs.Stalls as Stalls
 use Rattle.rules.proofs.Tidy as Tidying
@@ -37,7 +37,7 @@ use Rattle.rules.proofs.Limits as Limits
 
 -- Of a header that Start takes and a whole source of it, the account has the records and the ending of the plain list.
 pub agree : (h : FlatHeader) (src : List ℕ) → Of h src → told (rules h src) ≡ plainList h src
-agree = Agree.agree
+agree = Agreement.agree
 
 -- A map of S bytes leads to at most S/2 object records.
 pub half-the-map : (h : FlatHeader) (src : List ℕ) → Of h src → 2 * objectsIn (records h src) ≤ mapSize h
@@ -60,7 +60,7 @@ commits-last = LastByte.commits-last
 -- A walk takes at most the bytes of both sections, of the map twice, and of the source once for every two bytes of the map.
 pub bytes-bound : (h : FlatHeader) (src : List ℕ)
     → bytesTaken (rules h src) ≤ locatorOf h 0 .size + locatorOf h 1 .size + 2 * mapSize h + mapSize h / 2 * h .length
-bytes-bound = BytesBound.bytes-bound
+bytes-bound = Bound.bytes-bound
 
 -- After any number of bytes, the payload is the sizes of what was committed and what was taken of the unit in hand.
 pub payload-so-far : (h : FlatHeader) (src : List ℕ) (n : ℕ)

@@ -1,12 +1,12 @@
 -- The payload of a walk is the sizes of what it commits, and what was taken of the unit in hand.
 use Prim.Native.Nat.{ℕ, zero, suc, _+_}
 use mathlib.Core.List.{List, [], _∷_, _++_}
-use mathlib.Core.Path.{_≡_, refl, ap, _∙_}
+use mathlib.Core.Path.{_≡_, refl}
 use native.Mathlib.Omega.{arith}
 use native.Mathlib.Nat.{add-zero}
 use lib.ListN.{length, getD}
 use lib.Dec.{ltb, eqb}
-use Rattle.streaming.specs.Record.{Record, section, object, committedIn}
+use Rattle.streaming.specs.Record.{Record, committedIn}
 use Rattle.streaming.specs.declared.Part.{Part}
 use Rattle.streaming.specs.declared.FlatHeader.{FlatHeader}
 use Rattle.streaming.specs.declared.Fault.{Fault}
@@ -15,7 +15,7 @@ use Rattle.streaming.specs.declared.Asked.the-variants as asked
 use Rattle.streaming.specs.declared.Answer.{Answer}
 use Rattle.streaming.proofs.Choose.{in-both}
 use Rattle.account.specs.Account.{Account, ask, over, demand, framing, payload, faulted, broken, recordsIn, recordsWithin, endingOf, payloadByte, payloadTaken}
-use Rattle.account.specs.Asking.{Turn, go, bad, askByte, span, passing, oneByOne, spell}
+use Rattle.account.specs.Asking.{Turn, askByte, span, passing, oneByOne, spell}
 use Rattle.rules.specs.Rules.{rules, records, ending}
 use Rattle.rules.specs.Payload.{sizeOf, sizesOf, payloadWithin, keptBehind, payloadInHand}
 use Rattle.rules.proofs.Kept.{Kept, rules-keep}

@@ -4,7 +4,6 @@ use mathlib.Core.Bool.{Bool, true, false}
 use mathlib.Core.List.{List, [], _∷_}
 use mathlib.Core.Path.{_≡_, refl}
 use native.Mathlib.Omega.{arith}
-use lib.Dec.{leb, eqb}
 use Rattle.streaming.specs.Record.{section, object}
 use Rattle.streaming.specs.declared.Part.{Part}
 use Rattle.streaming.specs.declared.Part.the-variants.{HeaderVars, Classes}
@@ -61,7 +60,7 @@ module _ (h : FlatHeader) (src : List ℕ) (P : (room : ℕ) → Listing → Typ
   unfolding objectThen
   keeps-object room handle location l k =
       keeps-require (2 + room) (mayStart h location) _ _ λ e.
-      in-both (P (2 + room)) (lacksSecondWord h src location)
+      in-both (P (2 + room)) _
       (λ f. kept .stalled (2 + room) location e f) (λ f. keeps-sized room handle location (sizeAt src location) l k)
 
   keeps-entries : (es : List Entry) (inside at room : ℕ) (l : Listing) → Within inside es → P room l → P (inside + room) (entriesThen h src es at l)
@@ -75,8 +74,8 @@ module _ (h : FlatHeader) (src : List ℕ) (P : (room : ℕ) → Listing → Typ
   keeps-chunk : (chunk size room : ℕ) (l : Listing) → P room l → P ((size - 2) + room) (checkedChunkThen h src chunk size l)
   unfolding checkedChunkThen
   keeps-chunk chunk size room l k =
-      in-both (P ((size - 2) + room)) (eqb size 2)
-      (λ e. keeps-require _ (eqb (chunk + 4) (mapEnd h)) _ _ λ f. kept .finishing _)
+      in-both (P ((size - 2) + room)) _
+      (λ e. keeps-require _ _ _ _ λ f. kept .finishing _)
       λ e.
       let w = chunk-within src chunk size in
       kept .wider (w .0 + room) ((size - 2) + room) _ (omega (arith, w .1)) (keeps-entries (chunkEntries src chunk size) (w .0) (chunk + 2) room l (w .2) k)
@@ -86,7 +85,7 @@ module _ (h : FlatHeader) (src : List ℕ) (P : (room : ℕ) → Listing → Typ
   keeps-chunks zero chunk = kept .stopped _ _
   keeps-chunks (suc k) chunk =
       let size = chunkSize src chunk in
-      keeps-require _ (leb (chunk + 4) (mapEnd h)) _ _ λ e.
+      keeps-require _ _ _ _ λ e.
       keeps-require _ (chunkFits h chunk size) _ _ λ f.
       keeps-require _ _ _ _ λ g.
       kept .wider ((size - 2) + (mapEnd h - (chunk + size + 2))) (mapEnd h - chunk) _ (omega (arith, fits-low h chunk size f, fits-end h chunk size f))

@@ -1,6 +1,6 @@
 -- A walk stalls only at the source's end, for the second size word of an object.
 use Prim.Native.Nat.{ℕ, _+_, _-_, _<_}
-use mathlib.Core.Bool.{Bool, true, false, not}
+use mathlib.Core.Bool.{true, not}
 use mathlib.Core.List.{List}
 use mathlib.Core.Path.{_≡_, sym, ap, _∙_}
 use native.Mathlib.Omega.{arith}
@@ -18,7 +18,7 @@ use Rattle.rules.specs.Rules.{ending}
 use Rattle.rules.specs.PlainList.{Listing, lacksSecondWord}
 use Rattle.rules.specs.Stall.{Stall}
 use Rattle.rules.proofs.PlainKept.{PlainKept, plain-keeps}
-use Rattle.rules.proofs.Agree.{agree}
+use Rattle.rules.proofs.PlainList.{agree}
 
 -- where a listing ends in a demand, that is a stall
 record Stalls (h : FlatHeader) (src : List ℕ) (room : ℕ) (l : Listing) : Type 0 where

@@ -8,7 +8,7 @@ use Rattle.streaming.specs.declared.Fault.{Fault}
 use Rattle.streaming.specs.declared.Asked.{Asked}
 use Rattle.streaming.specs.declared.Answer.{Answer}
 use Rattle.streaming.proofs.Choose.{in-both}
-use Rattle.account.specs.Account.{Account, ask, over, bytesTaken}
+use Rattle.account.specs.Account.{Account, over, bytesTaken}
 use Rattle.account.specs.Asking.{Turn, go, bad, askByte, span, oneByOne, spell}
 
 -- an account of at most n bytes, and a turn with at most n bytes behind it

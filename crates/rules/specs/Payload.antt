@@ -2,8 +2,6 @@
 use Prim.Native.Nat.{ℕ, zero, suc, _+_}
 use mathlib.Core.List.{List, [], _∷_}
 use Rattle.streaming.specs.Record.{Record, section, object, committedIn}
-use Rattle.streaming.specs.declared.SectionRecord.{SectionRecord}
-use Rattle.streaming.specs.declared.ObjectRecord.{ObjectRecord}
 use Rattle.account.specs.Account.{Account, ask, over, payloadByte}
 
 -- the size of what was committed

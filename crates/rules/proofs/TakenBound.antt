@@ -5,7 +5,7 @@ use mathlib.Core.Path.{_≡_}
 use native.Mathlib.Omega.{arith}
 use native.Mathlib.Nat.{add-mul, suc-mul, mul-le-mul-right}
 use lib.ListN.{length}
-use lib.Dec.{ltb, leb, eqb}
+use lib.Dec.{leb, eqb}
 use borrow.Author.Tests.{leb-true, eqb-true}
 use Rattle.streaming.specs.declared.Part.{Part}
 use Rattle.streaming.specs.declared.Part.the-variants.{HeaderVars, Classes}
@@ -14,12 +14,12 @@ use Rattle.streaming.proofs.Choose.{in-both}
 use Rattle.account.specs.Account.{Account, framing, bytesTaken}
 use Rattle.account.specs.Asking.{span}
 use Rattle.rules.specs.Header.{locatorOf, mapStart, mapSize, mapEnd}
-use Rattle.rules.specs.Section.{startSentinel, endSentinel, frame, sectionSize, sectionStored, sectionComputed}
+use Rattle.rules.specs.Section.{startSentinel, endSentinel, frame, sectionSize}
 use Rattle.rules.specs.Section.{askSectionEnd, sectionCrcTurn, askSectionData, sectionSizeTurn, askSection}
 use Rattle.rules.specs.Entry.{Entry, leads, refused}
 use Rattle.rules.specs.Object.{Size, sized, unending, isLast, Verdict, holds, fails, mayStart, mayEnd, firstWord, sizeAt, verdict}
 use Rattle.rules.specs.Object.{verdictTurn, askObjectData, objectSizeTurn, askObject, objectTurn}
-use Rattle.rules.specs.Map.{chunkSize, chunkStored, chunkComputed, chunkEntries, chunkFits}
+use Rattle.rules.specs.Map.{chunkSize, chunkEntries, chunkFits}
 use Rattle.rules.specs.Map.{askEntries, chunkTurn, chunkCrcTurn, chunkSizeTurn, askChunks}
 use Rattle.rules.specs.Rules.{rules}
 use Rattle.rules.proofs.Section.{IsSection, vars, classes, length-start, length-end}
@@ -35,7 +35,7 @@ module _ (src : List ℕ) (p : Part) (is : IsSection p) (start total m : ℕ) (n
   unfolding askSectionData sectionCrcTurn askSectionEnd
   data-takes size =
       takes-span src (2 + (16 + m)) size _ _ _ (behind-go _ _ _ (takes-span src (16 + m) 2 _ _ _
-      (in-both (Behind (16 + m)) (eqb (sectionStored src start size) (sectionComputed src start size))
+      (in-both (Behind (16 + m)) _
       (λ e. behind-go _ _ _ (rw (← length-end is) (takes-spell src m _ (endSentinel p) _ _ (behind-go m _ next k))))
       (λ e. behind-bad _ _))))
 
@@ -66,7 +66,7 @@ module _ (h : FlatHeader) (src : List ℕ) (handle location m : ℕ) (next : Acc
   unfolding objectSizeTurn askObjectData
   size-behind unending l = behind-bad _ _
   size-behind (sized n size) l =
-      in-both (Behind ((h .length - 43) + m)) (ltb 0 size)
+      in-both (Behind ((h .length - 43) + m)) _
       (λ e. in-both (Behind ((h .length - 43) + m)) (mayEnd h location (location + n + size + 2))
       (λ f. let z : location + n + size + 2 ≤ h .length = end-inside h location (location + n + size + 2) f in
       behind-go _ _ _ (takes-less (size + (2 + m)) _ _
@@ -129,8 +129,8 @@ module _ (h : FlatHeader) (src : List ℕ) where
       let a : 2 * c ≤ w .0 = entries-half es (w .0) (w .2) in (
         c + s .objects,
         omega (arith, w .1, s .half),
-        in-both (Behind ((size - 2) + 2 * room + (c + s .objects) * h .length)) (eqb size 2)
-            (λ e. in-both (Behind _) (eqb (chunk + 4) (mapEnd h)) (λ f. behind-go _ _ _ (takes-over _ _)) (λ f. behind-bad _ _))
+        in-both (Behind ((size - 2) + 2 * room + (c + s .objects) * h .length)) _
+            (λ e. in-both (Behind _) _ (λ f. behind-go _ _ _ (takes-over _ _)) (λ f. behind-bad _ _))
             (λ e. behind-go _ _ _ (takes-less (w .0 + c * h .length + (2 * room + s .objects * h .length)) _ _
             (entries-take es (w .0) (chunk + 2) _ next (w .2) (s .takes)) (omega (arith, w .1, add-mul c (s .objects) (h .length))))),
       )
@@ -149,7 +149,7 @@ module _ (h : FlatHeader) (src : List ℕ) where
         half = omega (arith, c .1);
         takes = takes-less (2 + ((size - 2) + (2 + n))) _ _
             (takes-span src _ 2 _ _ _ (behind-go _ _ _ (takes-span src _ (size - 2) _ _ _ (behind-go _ _ _ (takes-span src n 2 _ _ _
-            (in-both (Behind n) (eqb (chunkStored src chunk size) (chunkComputed src chunk size)) (λ f. c .2) (λ f. behind-bad _ _)))))))
+            (in-both (Behind n) _ (λ f. c .2) (λ f. behind-bad _ _)))))))
             (omega arith);
       })
       (λ e. record { objects = 0; half = omega arith; takes = takes-less (2 + 0) _ _ (takes-span src 0 2 _ _ _ (behind-bad 0 _)) (omega arith) })
