@@ -1,33 +1,29 @@
 -- The account and the plain list agree: the same records, in the same order, and the same ending.
 use Prim.Native.Nat.{ℕ, zero, suc, _+_, _-_, _≤_}
-use mathlib.Core.Bool.{Bool, true, false}
 use mathlib.Core.List.{List, [], _∷_}
 use mathlib.Core.Path.{_≡_, refl, ap, _∙_}
 use native.Mathlib.Omega.{arith}
 use lib.ListN.{length}
-use lib.Dec.{leb, eqb}
 use borrow.Author.Tests.{leb-true}
-use Rattle.streaming.specs.Choose.{if_then_else_}
 use Rattle.streaming.specs.declared.Part.the-variants.{HeaderVars, Classes}
 use Rattle.streaming.specs.declared.FlatHeader.{FlatHeader}
-use Rattle.streaming.specs.declared.Fault.the-variants as fault
 use Rattle.streaming.specs.declared.Asked.the-variants as asked
-use Rattle.account.specs.Account.{Account, over, framing, finished}
-use Rattle.account.specs.Asking.{go, bad}
+use Rattle.account.specs.Account.{Account, framing}
 use Rattle.rules.specs.Header.{locatorOf, mapStart, mapSize, mapEnd}
 use Rattle.rules.specs.Source.{Of}
 use Rattle.rules.specs.Entry.{Entry, leads, refused}
-use Rattle.rules.specs.Map.{chunkSize, chunkComputed, chunkStored, chunkEntries, chunkFits}
+use Rattle.rules.specs.Map.{chunkSize, chunkEntries, chunkFits}
 use Rattle.rules.specs.Map.{askEntries, chunkTurn, chunkCrcTurn, chunkSizeTurn, askChunks}
 use Rattle.rules.specs.Rules.{rules}
-use Rattle.rules.specs.PlainList.{told, stop, require, objectThen, entriesThen, checkedChunkThen, chunkThen, chunksFrom, partThen, plainList}
+use Rattle.rules.specs.PlainList.{told, objectThen, entriesThen, checkedChunkThen, chunkThen, chunksFrom, partThen, plainList}
+use Rattle.rules.proofs.Choose.{choose-alike}
 use Rattle.rules.proofs.Header.{started}
 use Rattle.rules.proofs.Section.{vars, classes}
 use Rattle.rules.proofs.Entry.{Within}
 use Rattle.rules.proofs.Map.{fits-low, fits-end, chunk-within}
 use Rattle.rules.proofs.Told.{toldTurn, told-bad, told-over, turn-if, entered-if, told-span, told-passing, told-oneByOne}
-use Rattle.rules.proofs.AgreeSection.{section-told}
-use Rattle.rules.proofs.AgreeObject.{object-told}
+use Rattle.rules.proofs.PlainSection.{section-told}
+use Rattle.rules.proofs.PlainObject.{object-told}
 
 module _ (h : FlatHeader) (src : List ℕ) (len : length src ≡ h .length) where
   entries-told : (es : List Entry) (room at : ℕ) (next : Account) → Within room es → at + room ≤ length src
@@ -45,25 +41,18 @@ module _ (h : FlatHeader) (src : List ℕ) (len : length src ≡ h .length) wher
   module _ (inside : mapEnd h ≤ length src) where
     chunk-told : (chunk size : ℕ) (next : Account) → chunk + size + 2 ≤ mapEnd h → 2 ≤ size
         → toldTurn (chunkTurn h src chunk size next) ≡ checkedChunkThen h src chunk size (told next)
-    unfolding chunkTurn checkedChunkThen if_then_else_
-    chunk-told chunk size next k l = both (eqb size 2)
-      where
-        both : (b : Bool)
-            → toldTurn (if b then (if eqb (chunk + 4) (mapEnd h) then go finished (over asked.Nothing) else bad (fault.MapChunk chunk))
-            else go framing (askEntries h src (chunkEntries src chunk size) (chunk + 2) next))
-            ≡ (if b then require (eqb (chunk + 4) (mapEnd h)) (fault.MapChunk chunk) (stop asked.Nothing)
-            else entriesThen h src (chunkEntries src chunk size) (chunk + 2) (told next))
-        both true = turn-if (eqb (chunk + 4) (mapEnd h)) _ _ λ e. told-over asked.Nothing
-        both false =
-            let w = chunk-within src chunk size in
-            entries-told (chunkEntries src chunk size) (w .0) (chunk + 2) next (w .2) (omega (arith, w .1))
+    unfolding chunkTurn checkedChunkThen
+    chunk-told chunk size next k l =
+        choose-alike toldTurn _ (λ e. turn-if _ _ _ λ f. told-over asked.Nothing) λ e.
+        let w = chunk-within src chunk size in
+        entries-told (chunkEntries src chunk size) (w .0) (chunk + 2) next (w .2) (omega (arith, w .1))
 
     chunks-told : (k chunk : ℕ) → told (askChunks h src k chunk) ≡ chunksFrom h src k chunk
     unfolding askChunks chunksFrom chunkThen chunkSizeTurn chunkCrcTurn
     chunks-told zero chunk = told-over _
     chunks-told (suc k) chunk =
         let size = chunkSize src chunk in
-        entered-if (leb (chunk + 4) (mapEnd h)) _ _ λ e.
+        entered-if _ _ _ λ e.
         let m : chunk + 4 ≤ mapEnd h = leb-true (chunk + 4) (mapEnd h) e in
         told-span src chunk 1 framing _ tt (omega arith) ∙
         (turn-if (chunkFits h chunk size) _ _ λ f.
@@ -71,7 +60,7 @@ module _ (h : FlatHeader) (src : List ℕ) (len : length src ≡ h .length) wher
         let n : chunk + size + 2 ≤ mapEnd h = fits-end h chunk size f in
         told-passing src (chunk + 2) (size - 2) framing _ tt (omega arith) ∙
         told-span src (chunk + size) 1 framing _ tt (omega arith) ∙
-        (turn-if (eqb (chunkStored src chunk size) (chunkComputed src chunk size)) _ _ λ g.
+        (turn-if _ _ _ λ g.
         chunk-told chunk size _ n l ∙
         ap (checkedChunkThen h src chunk size) (chunks-told k (chunk + size + 2))))
 

@@ -11,6 +11,7 @@ use Rattle.streaming.specs.Choose.{if_then_else_}
 use Rattle.streaming.specs.declared.Part.the-variants.{Object}
 use Rattle.streaming.specs.declared.FlatHeader.{FlatHeader}
 use Rattle.streaming.specs.declared.Fault.the-variants as fault
+use Rattle.streaming.proofs.Choose.{in-both}
 use Rattle.account.specs.Account.{Account, ask, over, demand, framing, payload}
 use Rattle.account.specs.Asking.{Turn, go, span}
 use Rattle.rules.specs.Object.{Size, sized, unending, isLast, Verdict, holds, fails, mayStart, mayEnd, firstWord, sizeAt, verdict}
@@ -44,7 +45,7 @@ module _ (h : FlatHeader) (src : List ℕ) (len : length src ≡ h .length) (han
   unfolding objectSizeTurn askObjectData sizedThen
   sized-told unending = told-bad (fault.ObjectSize handle)
   sized-told (sized n size) =
-      turn-if (ltb 0 size) _ _ λ e.
+      turn-if _ _ _ λ e.
       turn-if (mayEnd h location (location + n + size + 2)) _ _ λ f.
       let k : location + n + size + 2 ≤ h .length = end-inside h location (location + n + size + 2) f in
       told-passing src (location + n) size (payload Object) _ tt (omega arith) ∙
@@ -59,17 +60,12 @@ module _ (h : FlatHeader) (src : List ℕ) (len : length src ≡ h .length) (han
       else sizedThen h src handle location s (told next))
   unfolding if_then_else_
   words-told true s k = sized-told s
-  words-told false s k = split (ltb (h .length) (location + 4)) refl
-    where
-      split : (b : Bool) → ltb (h .length) (location + 4) ≡ b
-          → told (span src (location + 2) 2 framing (objectSizeTurn h src handle location next s))
-          ≡ (if b then stop (demand (h .length) (location + 4 - h .length)) else sizedThen h src handle location s (told next))
-      split true e =
-          let l : h .length < location + 4 = ltb-true (h .length) (location + 4) e in
-          lacking src (location + 2) _ (omega arith) (omega arith) ∙ ap stop (ap₂ demand len (omega arith))
-      split false e =
-          let l : location + 4 ≤ h .length = ltb-false (h .length) (location + 4) e in
-          told-span src (location + 2) 1 framing _ tt (omega arith) ∙ sized-told s
+  words-told false s k =
+      in-both (λ l. told (span src (location + 2) 2 framing (objectSizeTurn h src handle location next s)) ≡ l) (ltb (h .length) (location + 4))
+      (λ e. let l : h .length < location + 4 = ltb-true (h .length) (location + 4) e in
+      lacking src (location + 2) _ (omega arith) (omega arith) ∙ ap stop (ap₂ demand len (omega arith)))
+      (λ e. let l : location + 4 ≤ h .length = ltb-false (h .length) (location + 4) e in
+      told-span src (location + 2) 1 framing _ tt (omega arith) ∙ sized-told s)
 
   pub object-told : toldTurn (objectTurn h src handle location next) ≡ objectThen h src handle location (told next)
   unfolding objectTurn askObject objectThen lacksSecondWord

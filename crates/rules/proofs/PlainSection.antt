@@ -17,7 +17,7 @@ use Rattle.rules.specs.Section.{startSentinel, endSentinel, frame, secti
 use Rattle.rules.specs.Section.{askSectionEnd, sectionCrcTurn, askSectionData, sectionSizeTurn, askSection}
 use Rattle.rules.specs.PlainList.{told, first, require, sectionThen}
 use Rattle.rules.proofs.Section.{IsSection, length-start, length-end}
-use Rattle.rules.proofs.Told.{toldTurn, turn-if, entered-if, require-if, told-span, told-passing, told-spell}
+use Rattle.rules.proofs.Told.{turn-if, entered-if, require-if, told-span, told-passing, told-spell}
 
 module _ (src : List ℕ) (p : Part) (is : IsSection p) (start total : ℕ) (next : Account) (inside : start + total ≤ length src) where
   -- behind the size field
