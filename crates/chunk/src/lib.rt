@@ -3,7 +3,7 @@ ghost use mathlib.Core.Path.{_≡_};
 ghost use mathlib.Core.Bool.{true};
 ghost use Prim.Native.Nat.{_<_, _^_};
 ghost use Rattle.chunk.specs.Chunk.{enterChunk, requestChunk};
-ghost use Rattle.chunk.specs.Fit.{noObject, noEntry, inChunk, FitChunk, InChunk};
+ghost use Rattle.chunk.specs.Fit.{noObject, noEntry, chunkDone, fitChunk, inChunk, FitChunk, InChunk};
 use streaming::Failure;
 use streaming::Fault;
 use streaming::FlatHeader;
@@ -102,4 +102,31 @@ pub fn in_chunk(h: FlatHeader, m: MapCursor) -> bool
     }
     let len = m.len as u64;
     ((3 <= len) & (len <= 2034)) & ((start <= m.chunk) & (m.chunk + len + 2 <= end))
+}
+
+// How far the chunk is: its size, once it is known, fits the map, which ends there.
+fn chunk_done(end: u64, chunk: u64, done: u32, size: u32) -> bool
+    requires { ⌜ chunk < 2 ^ 33 ⌝ }
+    ensures { λ r. ⌜ r ≡ chunkDone end chunk done size ⌝ }
+{
+    if done < 2 {
+        return size == 0;
+    }
+    ((2 <= size) & (size <= 2034)) & ((chunk + size as u64 + 2 <= end) & ((done as u64) < size as u64 + 2))
+}
+
+// Whether a walk can reach the state, in this stage.
+pub fn fit_chunk(s: FlatWalker) -> bool
+    ensures { λ r. ⌜ (r ≡ fitChunk s) × (r ≡ true → FitChunk s) ⌝ }
+{
+    let h = s.header;
+    let m = s.map;
+    let start = header::map_start(h);
+    let end = header::map_end(h);
+    if end < m.chunk {
+        return false;
+    }
+    let fresh = no_object(s) & no_entry(m);
+    let done = chunk_done(end, m.chunk, s.done, s.size);
+    fresh & ((start <= m.chunk) & (m.chunk + 4 <= end)) & done
 }
