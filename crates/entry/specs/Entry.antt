@@ -13,6 +13,8 @@ use Rattle.streaming.specs.declared.MapCursor.{MapCursor}
 use Rattle.streaming.specs.declared.FlatWalker.{FlatWalker}
 use Rattle.streaming.specs.declared.Fed.{Fed}
 use Rattle.object.specs.Object.{enterObject}
+use Rattle.entry.specs.declared.Moved.{Moved}
+use Rattle.entry.specs.declared.Moved.the-variants as moved
 
 unfoldable pub requestEntry : FlatWalker → Request
 requestEntry s = record { offset = s .map .at; len = 1 }
@@ -31,6 +33,11 @@ movedBy back location value =
     if back then (if leb value location then some (location - value) else none)
     else if ltb (location + value) (2 ^ 63) then some (location + value)
     else none
+
+-- the same as the code's answer
+abbrev pub movedTo : Option ℕ → Moved
+movedTo none = moved.Nowhere
+movedTo (some location) = moved.To location
 
 module _ (s : FlatWalker) where
   -- the location is whole: its object is entered at once
