@@ -47,8 +47,8 @@ pub record FitChunk (s : FlatWalker) : Type 0 where
   pub early : s .done < 2 → s .size ≡ 0
   pub least : 2 ≤ s .done → 2 ≤ s .size
   pub most : s .size ≤ 2034
-  pub inside : 2 ≤ s .done → s .map .chunk + s .size + 2 ≤ mapEnd (s .header)
-  pub within : 2 ≤ s .done → s .done < s .size + 2
+  pub inside : s .map .chunk + s .size + 2 ≤ mapEnd (s .header)
+  pub within : s .done < s .size + 2
 
 pub record InChunk (h : FlatHeader) (m : MapCursor) : Type 0 where
   pub least : 3 ≤ m .len
