@@ -2,9 +2,9 @@
 ghost use mathlib.Core.Path.{_≡_};
 ghost use Prim.Native.Nat.{_/_, _%_};
 ghost use lib.Dec.{ltb, eqb};
-ghost use Rattle.streaming.specs.State.{fell};
-ghost use Rattle.streaming.specs.declared.Fault.the-variants as fault;
-ghost use Rattle.entry.specs.Entry.{requestEntry, bitsOf, atLast, movedBy, movedTo, settleHandle, moreGroups};
+ghost use Rattle.entry.specs.Entry.{requestEntry, bitsOf, atLast, movedBy, movedTo};
+ghost use Rattle.entry.specs.Entry.{refusedEntry, settleLocation, settleHandle, moreGroups, settleGroup, feedEntry};
+ghost use Rattle.chunk.specs.Fit.{InChunk};
 ghost use Rattle.entry.specs.Fit.{atByte, FitEntry};
 use streaming::Answer;
 use streaming::Failure;
@@ -82,4 +82,126 @@ fn moved_by(back: bool, location: u64, value: u64) -> Moved
         return Moved::Nowhere;
     }
     Moved::To(location + value)
+}
+
+// The entry is refused at the place of its next byte.
+fn refused_entry(s: FlatWalker) -> Fed
+    ensures { λ r. ⌜ r ≡ refusedEntry s ⌝ }
+{
+    let m = s.map;
+    let f = Fault::MapEntry(m.at);
+    Fed {
+        answer: Answer::Refused(StreamError::Fault(f)),
+        state: FlatWalker {
+            failure: Failure::Held(f),
+            ..s
+        },
+    }
+}
+
+// The location is whole: its object is entered at once.
+fn settle_location(s: FlatWalker, byte: u8, value: u64) -> Fed
+    requires { ⌜ FitEntry s ⌝ }
+    ensures { λ r. ⌜ r ≡ settleLocation s (movedBy (eqb (byte / 0x40 % 2) 1) (s .map .loc) value) ⌝ }
+{
+    let m = s.map;
+    match moved_by(is_back(byte), m.loc, value) {
+        Moved::To(location) => {
+            let map = MapCursor {
+                at: m.at + 1,
+                loc: location,
+                mc: 0,
+                shift: 0,
+                field: 0,
+                ..m
+            };
+            object::enter_object(FlatWalker { map: map, ..s }, location)
+        }
+        Moved::Nowhere => refused_entry(s),
+    }
+}
+
+// The handle delta is whole.
+fn settle_handle(s: FlatWalker, value: u64) -> Fed
+    requires { ⌜ FitEntry s ⌝ }
+    ensures { λ r. ⌜ r ≡ settleHandle s value ⌝ }
+{
+    let m = s.map;
+    if u64::MAX - value < m.handle {
+        return refused_entry(s);
+    }
+    if at_last(s) {
+        return refused_entry(s);
+    }
+    let map = MapCursor {
+        at: m.at + 1,
+        handle: m.handle + value,
+        mc: 0,
+        shift: 0,
+        field: 1,
+        ..m
+    };
+    Fed {
+        answer: Answer::Step(Step::Framing),
+        state: FlatWalker { map: map, ..s },
+    }
+}
+
+// More bytes of the delta follow.
+fn more_groups(s: FlatWalker, value: u64) -> Fed
+    requires { ⌜ FitEntry s ⌝ }
+    ensures { λ r. ⌜ r ≡ moreGroups s value ⌝ }
+{
+    let m = s.map;
+    if at_last(s) {
+        return refused_entry(s);
+    }
+    let map = MapCursor {
+        at: m.at + 1,
+        mc: value,
+        shift: m.shift + 7,
+        ..m
+    };
+    Fed {
+        answer: Answer::Step(Step::Framing),
+        state: FlatWalker { map: map, ..s },
+    }
+}
+
+// The delta with this byte's bits.
+fn settle_group(s: FlatWalker, byte: u8, value: u64) -> Fed
+    requires { ⌜ FitEntry s ⌝ }
+    ensures { λ r. ⌜ r ≡ settleGroup s byte value ⌝ }
+{
+    let m = s.map;
+    if is_last(byte) {
+        if m.field == 0 {
+            return settle_handle(s, value);
+        }
+        return settle_location(s, byte, value);
+    }
+    more_groups(s, value)
+}
+
+// A tenth byte is refused before anything else.
+pub fn feed_entry(s: FlatWalker, byte: u8) -> Fed
+    requires { ⌜ FitEntry s ⌝ }
+    ensures { λ r. ⌜ r ≡ feedEntry s byte ⌝ }
+{
+    let m = s.map;
+    if 56 < m.shift {
+        return refused_entry(s);
+    }
+    let bits = bits_of(byte, m.field);
+    settle_group(s, byte, m.mc | bits << m.shift)
+}
+
+// Whether the next byte lies in the chunk, and at most so many bits of a delta are held.
+fn at_byte(most: u8, s: FlatWalker) -> bool
+    requires { ⌜ InChunk (s .header) (s .map) ⌝ }
+    ensures { λ r. ⌜ r ≡ atByte most s ⌝ }
+{
+    let m = s.map;
+    ((m.chunk + 2 <= m.at) & (m.at < m.chunk + m.len as u64))
+        & ((m.field <= 1) & (m.shift <= most) & (m.shift % 7 == 0) & (m.loc <= FARTHEST))
 }
