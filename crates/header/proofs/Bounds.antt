@@ -1,4 +1,4 @@
--- Where the map can end: a locator's offset and size are u32 in any header that code is handed, so the map ends below 2^33.
+-- Bounds of what any header that code is handed says: a locator's offset and size are u32, so the map ends below 2^33.
 -- For `search (needs, map-end-below)`, which finds the header among what a need is handed.
 use Prim.Native.Nat.{ℕ, zero, suc, _<_, _^_, _+_}
 use native.Mathlib.Omega.{arith}
@@ -33,6 +33,15 @@ first-small (l ∷ ls) (u ∷ us) (suc k) n p =
     (λ e. record { offset = p .0 .1 .1 .1 .0 .1; size = p .0 .1 .1 .1 .1 .0 .1 })
     (λ e. first-small ls us k n (p .1))
 
-pub map-end-below : (h : FlatHeader) (us : List Val) → Owned (h .locators) us → mapEnd h < 2 ^ 33
-unfolding mapEnd locatorOf
-map-end-below h us p = omega (arith, first-small (h .locators) us (h .count) 2 p)
+module _ (h : FlatHeader) (us : List Val) (p : Owned (h .locators) us) where
+  pub offset-below : (n : ℕ) → locatorOf h n .offset < 2 ^ 32
+  unfolding locatorOf
+  offset-below n = first-small (h .locators) us (h .count) n p .offset
+
+  pub size-below : (n : ℕ) → locatorOf h n .size < 2 ^ 32
+  unfolding locatorOf
+  size-below n = first-small (h .locators) us (h .count) n p .size
+
+  pub map-end-below : mapEnd h < 2 ^ 33
+  unfolding mapEnd
+  map-end-below = omega (arith, offset-below 2, size-below 2)
