@@ -1,11 +1,11 @@
 // Stage Entry: an entry of the object map is asked for byte by byte, and what a byte of it does.
+ghost use mathlib.Core.Bool.{true};
 ghost use mathlib.Core.Path.{_≡_};
 ghost use Prim.Native.Nat.{_/_, _%_};
 ghost use lib.Dec.{ltb, eqb};
 ghost use Rattle.entry.specs.Entry.{requestEntry, bitsOf, atLast, movedBy, movedTo};
 ghost use Rattle.entry.specs.Entry.{refusedEntry, settleLocation, settleHandle, moreGroups, settleGroup, feedEntry};
-ghost use Rattle.chunk.specs.Fit.{InChunk};
-ghost use Rattle.entry.specs.Fit.{atByte, FitEntry};
+ghost use Rattle.entry.specs.Fit.{atByte, entryConsistent, fitEntry, FitEntry};
 use streaming::Answer;
 use streaming::Failure;
 use streaming::Fault;
@@ -196,12 +196,29 @@ pub fn feed_entry(s: FlatWalker, byte: u8) -> Fed
     settle_group(s, byte, m.mc | bits << m.shift)
 }
 
-// Whether the next byte lies in the chunk, and at most so many bits of a delta are held.
+// Whether the next byte lies in the chunk, the chunk in the map, and at most so many bits of a delta are held.
 fn at_byte(most: u8, s: FlatWalker) -> bool
-    requires { ⌜ InChunk (s .header) (s .map) ⌝ }
     ensures { λ r. ⌜ r ≡ atByte most s ⌝ }
 {
+    let h = s.header;
     let m = s.map;
-    ((m.chunk + 2 <= m.at) & (m.at < m.chunk + m.len as u64))
-        & ((m.field <= 1) & (m.shift <= most) & (m.shift % 7 == 0) & (m.loc <= FARTHEST))
+    if chunk::in_chunk(h, m) {
+        return ((m.chunk + 2 <= m.at) & (m.at < m.chunk + m.len as u64))
+            & ((m.field <= 1) & (m.shift <= most) & (m.shift % 7 == 0) & (m.loc <= FARTHEST));
+    }
+    false
+}
+
+// The Rust's own test, which refuses 63 bits.
+pub fn entry_consistent(s: FlatWalker) -> bool
+    ensures { λ r. ⌜ r ≡ entryConsistent s ⌝ }
+{
+    at_byte(56, s)
+}
+
+// Whether a walk can reach the state, in this stage.
+pub fn fit_entry(s: FlatWalker) -> bool
+    ensures { λ r. ⌜ (r ≡ fitEntry s) × (r ≡ true → FitEntry s) ⌝ }
+{
+    at_byte(63, s)
 }
