@@ -15,6 +15,10 @@ fit-entry-shows s e =
     let near : s .map .loc ≤ 2 ^ 63 - 1 = search shown in
     record {
       chunk = search (shown, in-chunk-shows);
-      low = search shown; high = search shown; field = search shown; shift = search shown; sevens = search shown;
+      low = search shown;
+      high = search shown;
+      field = search shown;
+      shift = search shown;
+      sevens = search shown;
       near = omega arith;
     }

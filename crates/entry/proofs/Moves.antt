@@ -14,12 +14,15 @@ abbrev Near : Option ℕ → Type 0
 Near none = Unit {0}
 Near (some location) = location < 2 ^ 63
 
-pub moved-near : (back : Bool) (location value : ℕ) → location < 2 ^ 63 → Near (movedBy back location value)
+near : (back : Bool) (location value : ℕ) → location < 2 ^ 63 → Near (movedBy back location value)
 unfolding movedBy
-moved-near back location value h =
+near back location value h =
     in-both Near back
     (λ _. in-both Near (leb value location) (λ _. omega arith) (λ _. tt))
     (λ _. in-both Near (ltb (location + value) (2 ^ 63)) (λ e. ltb-true (location + value) (2 ^ 63) e) (λ _. tt))
+
+pub moved-near : (back : Bool) (location value to : ℕ) → location < 2 ^ 63 → movedBy back location value ≡ some to → to < 2 ^ 63
+moved-near back location value to h e = rw e at (near back location value h)
 
 pub told-some : (o : Option ℕ) (location : ℕ) → movedTo o ≡ moved.To location → o ≡ some location
 told-some none location e = cc

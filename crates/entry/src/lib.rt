@@ -29,7 +29,10 @@ pub fn request_entry(s: FlatWalker) -> Request
     ensures { λ r. ⌜ r ≡ requestEntry s ⌝ }
 {
     let m = s.map;
-    Request { offset: m.at, len: 1 }
+    Request {
+        offset: m.at,
+        len: 1,
+    }
 }
 
 // Whether the byte is the last of its delta.

@@ -1,5 +1,5 @@
 -- `feed_entry` meets its contract: the byte's seven bits, moved up by at most 56, stay within 64.
-use Prim.Native.Nat.{_*_, _^_, _<_}
+use Prim.Native.Nat.{_+_, _^_, _<_, _≤_}
 use native.Mathlib.Omega.{arith}
 use borrow.Author.Needs.{needs}
 use borrow.Author.Tests.{lt-leb, le-leb}
@@ -35,7 +35,8 @@ returns-2 c =
     let d = c .before .before .before in
     let a = d .before .before .before .before .args in
     let small : bitsOf (a .byte) (a .s .map .field) < 2 ^ 7 = bits-small (a .byte) (a .s .map .field) in
-    rw (le-leb _ _ (d .before .if1 .left), ← shl-exact 7 (a .s .map .shift) 64 small (omega (arith, d .before .if1 .left)), ← d .bits-of .ensures) (c .settle-group .ensures)
+    let room : 7 + a .s .map .shift ≤ 64 = omega (arith, d .before .if1 .left) in
+    rw (le-leb _ _ (d .before .if1 .left), ← shl-exact 7 (a .s .map .shift) 64 small room, ← d .bits-of .ensures) (c .settle-group .ensures)
 
 pub feed-entry-spec : {M : Type 1} → statement M
 feed-entry-spec =

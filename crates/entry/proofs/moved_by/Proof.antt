@@ -1,5 +1,5 @@
 -- `moved_by` meets its contract: a sum is tested before it is made.
-use Prim.Native.Nat.{_+_, _^_}
+use Prim.Native.Nat.{_+_, _^_, _<_, _≤_}
 use native.Mathlib.Omega.{arith}
 use borrow.Author.Needs.{needs}
 use borrow.Author.Tests.{le-leb, lt-leb, lt-ltb, le-ltb}
@@ -20,13 +20,15 @@ returns-3 : tie.Need-returns-3
 unfolding movedBy if_then_else_
 returns-3 c =
     let a = c .before .before .args in
-    rw (c .before .if1 .left, le-ltb (a .location + a .value) (2 ^ 63) (omega arith))
+    let far : 2 ^ 63 ≤ a .location + a .value = omega arith in
+    rw (c .before .if1 .left, le-ltb _ _ far)
 
 returns-4 : tie.Need-returns-4
 unfolding movedBy if_then_else_
 returns-4 c =
     let a = c .before .before .before .args in
-    rw (c .before .before .if1 .left, le-ltb (a .location + a .value) (2 ^ 63) (omega arith))
+    let far : 2 ^ 63 ≤ a .location + a .value = omega arith in
+    rw (c .before .before .if1 .left, le-ltb _ _ far)
 
 add-t7 : tie.Need-add-t7
 add-t7 c = search needs
@@ -35,7 +37,8 @@ returns-5 : tie.Need-returns-5
 unfolding movedBy if_then_else_
 returns-5 c =
     let a = c .before .before .before .args in
-    rw (c .before .before .if1 .left, lt-ltb (a .location + a .value) (2 ^ 63) (omega arith))
+    let near : a .location + a .value < 2 ^ 63 = omega arith in
+    rw (c .before .before .if1 .left, lt-ltb _ _ near)
 
 pub moved-by-spec : {M : Type 1} → statement M
 moved-by-spec = tie.close (tie.spec returns returns-2 returns-3 returns-4 add-t7 returns-5)
