@@ -13,6 +13,8 @@ use Rattle.streaming.specs.declared.MapCursor.{MapCursor}
 use Rattle.streaming.specs.declared.FlatWalker.{FlatWalker}
 use Rattle.streaming.specs.declared.Fed.{Fed}
 use Rattle.object.specs.Object.{enterObject}
+use Rattle.entry.specs.declared.Moved.{Moved}
+use Rattle.entry.specs.declared.Moved.the-variants as moved
 
 unfoldable pub requestEntry : FlatWalker → Request
 requestEntry s = record { offset = s .map .at; len = 1 }
@@ -32,10 +34,19 @@ movedBy back location value =
     else if ltb (location + value) (2 ^ 63) then some (location + value)
     else none
 
+-- the same as the code answers it
+abbrev pub movedTo : Option ℕ → Moved
+movedTo none = moved.Nowhere
+movedTo (some location) = moved.To location
+
 module _ (s : FlatWalker) where
+  -- the entry is refused at its next byte's place
+  abbrev pub refusedEntry : Fed
+  refusedEntry = fell (fault.MapEntry (s .map .at)) s
+
   -- the location is whole: its object is entered at once
   unfoldable pub settleLocation : Option ℕ → Fed
-  settleLocation none = fell (fault.MapEntry (s .map .at)) s
+  settleLocation none = refusedEntry
   settleLocation (some location) =
       enterObject (withMap s (atEntry (s .map .chunk) (s .map .len) (s .map .at + 1) (s .map .handle) location 0 0 0)) location
 
@@ -44,12 +55,12 @@ module _ (s : FlatWalker) where
   settleHandle value =
       if ltb (s .map .handle + value) (2 ^ 64) && not (atLast (s .map)) then
       stepped step.Framing (withMap s (atEntry (s .map .chunk) (s .map .len) (s .map .at + 1) (s .map .handle + value) (s .map .loc) 0 0 1))
-      else fell (fault.MapEntry (s .map .at)) s
+      else refusedEntry
 
   -- more bytes of the delta follow
   unfoldable pub moreGroups : (value : ℕ) → Fed
   moreGroups value =
-      if atLast (s .map) then fell (fault.MapEntry (s .map .at)) s
+      if atLast (s .map) then refusedEntry
       else stepped step.Framing
       (withMap s (atEntry (s .map .chunk) (s .map .len) (s .map .at + 1) (s .map .handle) (s .map .loc) value (s .map .shift + 7) (s .map .field)))
 
@@ -64,4 +75,4 @@ module _ (s : FlatWalker) where
   unfoldable pub feedEntry : (byte : ℕ) → Fed
   feedEntry byte =
       if leb (s .map .shift) 56 then settleGroup byte (bitOr (s .map .mc) (bitsOf byte (s .map .field) * 2 ^ s .map .shift))
-      else fell (fault.MapEntry (s .map .at)) s
+      else refusedEntry

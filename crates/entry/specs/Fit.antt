@@ -9,18 +9,19 @@ use Rattle.chunk.specs.Fit.{inChunk, InChunk}
 
 -- ---- tests
 
--- The next byte lies in the chunk, and at most so many bits of a delta are held. After nine continued bytes it is 63, which the Rust's own test
--- refuses, though a walk reaches it: there the most is 56.
+-- the next byte lies in the chunk, the chunk in the map, and at most so many bits of a delta are held
 unfoldable pub atByte : (mostBits : ℕ) → FlatWalker → Bool
 atByte mostBits s =
-    (leb (s .map .chunk + 2) (s .map .at) && ltb (s .map .at) (s .map .chunk + s .map .len))
+    inChunk (s .header) (s .map)
+    && (leb (s .map .chunk + 2) (s .map .at) && ltb (s .map .at) (s .map .chunk + s .map .len))
     && (leb (s .map .field) 1 && leb (s .map .shift) mostBits && eqb (s .map .shift % 7) 0 && leb (s .map .loc) (2 ^ 63 - 1))
 
+-- the Rust's own test: it refuses 63 bits, though a walk holds them after nine continued bytes
 unfoldable pub entryConsistent : FlatWalker → Bool
-entryConsistent s = inChunk (s .header) (s .map) && atByte 56 s
+entryConsistent s = atByte 56 s
 
 unfoldable pub fitEntry : FlatWalker → Bool
-fitEntry s = inChunk (s .header) (s .map) && atByte 63 s
+fitEntry s = atByte 63 s
 
 -- ---- what it shows
 

@@ -1,0 +1,23 @@
+-- `at_last` meets its contract: the chunk lies in the map, so the sums fit.
+use Prim.Native.Nat.{_<_, _^_}
+use native.Mathlib.Omega.{arith}
+use borrow.Author.Needs.{needs}
+use Rattle.rules.specs.Header.{mapEnd}
+use Rattle.header.proofs.Bounds.{map-end-below}
+use Rattle.entry.proofs.at_last.Statement.{statement}
+use Rattle.entry.proofs.at_last.Tie as tie
+
+add-result : tie.Need-add-result
+add-result c = let e : mapEnd (c .before .before .args .s .header) < 2 ^ 33 = search (needs, map-end-below) in omega arith
+
+cast-result : tie.Need-cast-result
+cast-result c = search needs
+
+add-result-2 : tie.Need-add-result-2
+add-result-2 c = let e : mapEnd (c .before .before .before .before .args .s .header) < 2 ^ 33 = search (needs, map-end-below) in omega arith
+
+returns : tie.Need-returns
+returns c = search needs
+
+pub at-last-spec : {M : Type 1} → statement M
+at-last-spec = tie.close (tie.spec add-result cast-result add-result-2 returns)

@@ -1,0 +1,67 @@
+-- `settle_handle` meets its contract: the sum is tested before it is made.
+use Prim.Native.Nat.{_+_, _^_, _<_, _≤_}
+use native.Mathlib.Omega.{arith}
+use borrow.Author.Needs.{needs}
+use borrow.Author.Tests.{le-ltb, lt-ltb}
+use Rattle.streaming.specs.Choose.{if_then_else_}
+use Rattle.rules.specs.Header.{mapEnd}
+use Rattle.header.proofs.Bounds.{map-end-below}
+use Rattle.entry.specs.Entry.{settleHandle}
+use Rattle.entry.proofs.settle_handle.Statement.{statement}
+use Rattle.entry.proofs.settle_handle.Tie as tie
+
+sub-if1 : tie.Need-sub-if1
+sub-if1 c = search needs
+
+refused-entry-requires : tie.Need-refused-entry-requires
+refused-entry-requires c κs = search needs
+
+returns : tie.Need-returns
+unfolding settleHandle if_then_else_
+returns c =
+    let a = c .before .before .before .before .args in
+    let past : 2 ^ 64 ≤ a .s .map .handle + a .value = omega arith in
+    rw (le-ltb _ _ past) (c .refused-entry .ensures)
+
+at-last-requires : tie.Need-at-last-requires
+at-last-requires c κs = search needs
+
+refused-entry-requires-2 : tie.Need-refused-entry-requires-2
+refused-entry-requires-2 c κs = search needs
+
+returns-2 : tie.Need-returns-2
+unfolding settleHandle if_then_else_
+returns-2 c =
+    let a = c .before .before .before .before .before .before .args in
+    let fits : a .s .map .handle + a .value < 2 ^ 64 = omega arith in
+    rw (lt-ltb _ _ fits, ← c .before .before .at-last .ensures, c .before .if2 .taken) (c .refused-entry2 .ensures)
+
+add-t5 : tie.Need-add-t5
+add-t5 c =
+    let e : mapEnd (c .before .before .before .before .before .before .args .s .header) < 2 ^ 33 = search (needs, map-end-below) in
+    omega arith
+
+add-t8 : tie.Need-add-t8
+add-t8 c = search needs
+
+returns-3 : tie.Need-returns-3
+unfolding settleHandle if_then_else_
+returns-3 c =
+    let d = c .before .before .before .before .before in
+    let a = d .before .before .before .before .before .args in
+    let fits : a .s .map .handle + a .value < 2 ^ 64 = omega (arith, d .before .before .if1 .left) in
+    rw (lt-ltb _ _ fits, ← d .before .at-last .ensures, d .if2 .left)
+
+pub settle-handle-spec : {M : Type 1} → statement M
+settle-handle-spec =
+    tie.close
+    (tie.spec
+    sub-if1
+    refused-entry-requires
+    returns
+    at-last-requires
+    refused-entry-requires-2
+    returns-2
+    add-t5
+    add-t8
+    returns-3)
