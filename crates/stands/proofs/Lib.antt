@@ -1,3 +1,4 @@
 pub mod Bare
 pub mod Landing
+pub mod ObjectDemands
 pub mod Objects

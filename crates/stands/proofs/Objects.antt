@@ -1,19 +1,18 @@
--- The machine goes through an object as the rules say: one or two size words, the data, the checksum, the verdict.
-use Prim.Native.Nat.{ℕ, suc, _+_, _*_, _-_, _%_, _^_, min, _≤_, _<_}
+-- The machine goes through an object as the rules say: one or two size words, the data, the checksum, the verdict. (Short names: ObjectDemands.)
+use Prim.Native.Nat.{ℕ, _+_, _*_, _%_, _^_, min, _≤_, _<_}
 use mathlib.Core.Bool.{Bool, true, false}
-use mathlib.Core.List.{List, [], _∷_, _++_}
-use mathlib.Core.Path.{_≡_, refl, sym, ap, ap₂, _∙_}
+use mathlib.Core.List.{List}
+use mathlib.Core.Path.{_≡_, refl, sym, ap, _∙_}
 use native.Mathlib.Omega.{arith}
-use native.Mathlib.Nat.{add-zero, zero-add}
-use lib.ListN.{length, take, drop, length-append, length-take}
+use native.Mathlib.Nat.{add-zero}
+use lib.ListN.{length, take, length-take}
 use lib.Seq.{sets, length-sets, take-at, drop-at}
 use lib.Dec.{ltb, eqb}
 use lib.Bits.{bitOr, or-shifted-r}
-use borrow.Author.Tests.{ltb-true, lt-ltb, le-ltb, eq-eqb, ne-eqb}
+use borrow.Author.Tests.{ltb-true}
 use Rattle.crc.specs.Crc.{crcOf}
-use Rattle.crc.proofs.Laws.{crc-append}
 use Rattle.octets.specs.Octets.{littleEndian}
-use Rattle.octets.proofs.Sets.{sets-append, take-sets, sets-front}
+use Rattle.octets.proofs.Sets.{take-sets}
 use Rattle.streaming.specs.Choose.{if_then_else_}
 use Rattle.streaming.specs.State.{inUnit, withObject, fell}
 use Rattle.streaming.specs.declared.Part.the-variants.{Object}
@@ -21,114 +20,20 @@ use Rattle.streaming.specs.declared.Fault.the-variants as fault
 use Rattle.streaming.specs.declared.Stage.the-variants as stage
 use Rattle.streaming.specs.declared.Failure.the-variants as failure
 use Rattle.streaming.specs.declared.FlatWalker.{FlatWalker}
-use Rattle.account.specs.Account.{Account, demand, framing, payload}
-use Rattle.account.specs.Asking.{Turn, go, bad, span, passing}
+use Rattle.account.specs.Account.{Account, framing, payload}
+use Rattle.account.specs.Asking.{Turn, go, span}
 use Rattle.account.specs.Statement.{part}
 use Rattle.account.proofs.Parts.{length-part, part-add}
-use Rattle.account.proofs.Walks.{together, Phase, On, Lands, lands-go, phase-on}
+use Rattle.account.proofs.Walks.{On, Lands, lands-go, phase-on}
 use Rattle.rules.specs.Bytes.{seed, checksum}
 use Rattle.rules.specs.Header.{isR2000}
 use Rattle.rules.specs.Prologue.{prologueOf}
 use Rattle.rules.specs.Object.{Size, sized, unending, isLast, sizeOfWords, mayStart, mayEnd, firstWord, sizeAt, objectComputed, objectStored}
 use Rattle.rules.specs.Object.{Verdict, holds, fails, named, verdict, verdictTurn, askObjectData, objectSizeTurn, askObject, objectTurn}
-use Rattle.object.specs.Object.{enterObject, leaveObject, objectEnd, requestObject, settleObjectSize, settleWord, settleVerdict, settleObjectCrc}
-use Rattle.object.specs.Object.{feedWord, feedObjectData, feedObjectCrc, feedObject}
-use Rattle.stands.proofs.Bare.{bareRequest, bareFeed, outcome, bare}
-use Rattle.stands.proofs.Landing.{eqb-alike, outcome-if, if-alike, Land, land-if, land-fell}
-
--- ---- where its demands end
-
-module _ (d z ms : ℕ) where
-  end-word : ms ≡ 0 → objectEnd d z ms ≡ d - d % 2 + 2
-  unfolding objectEnd if_then_else_
-  end-word h = rw (eq-eqb ms 0 h)
-
-  end-data : 0 < ms → d < ms + z → objectEnd d z ms ≡ ms + z
-  unfolding objectEnd if_then_else_
-  end-data h k = rw (ne-eqb ms 0 (omega arith), lt-ltb d (ms + z) k)
-
-  end-crc : 0 < ms → ms + z ≤ d → objectEnd d z ms ≡ ms + z + 2
-  unfolding objectEnd if_then_else_
-  end-crc h k = rw (ne-eqb ms 0 (omega arith), le-ltb d (ms + z) k)
-
--- ---- each demand, told once
-
--- a state in the object
-abbrev pub inObject : FlatWalker → (location done size crc : ℕ) (field head : List ℕ) (msLen words : ℕ) → FlatWalker
-inObject s location done size crc field head msLen words = withObject (inUnit s stage.Object done size crc field) head location msLen words
-
-module _ (s : FlatWalker) (location : ℕ) (sound : s .failure ≡ failure.None) where
-  abbrev within : (done size crc : ℕ) (field head : List ℕ) (msLen words : ℕ) → FlatWalker
-  within = inObject s location
-
-  asks : (d z c : ℕ) (f h : List ℕ) (ms wd at left : ℕ) → location + d ≡ at → objectEnd d z ms ≡ d + left
-      → bareRequest (within d z c f h ms wd) ≡ demand at left
-  unfolding bareRequest requestObject
-  asks d z c f h ms wd at left e k = rw sound (ap₂ demand e (omega (arith, k)))
-
-  -- a size word, k bytes behind the location
-  word-phase : (k z c : ℕ) (f h : List ℕ) (wd : ℕ) → k % 2 ≡ 0
-      → Phase bare together (location + k) 2 framing (λ q. within (k + length q) z (crcOf c q) (sets f 0 q) h 0 wd)
-      (λ q w. outcome (settleWord (within (k + length q) z (crcOf c q) (sets f 0 q) h 0 wd) (k + length w) (crcOf c w) (sets f 0 w)
-      (littleEndian (take 2 (sets f 0 w)))))
-  unfolding bareFeed feedObject feedWord if_then_else_
-  word-phase k z c f h wd e =
-      record {
-        asking = λ q l. asks (k + length q) z _ _ h 0 wd _ _ (omega arith) (omega (arith, end-word (k + length q) z 0 refl));
-        taking = λ q p a l b.
-            let x : k + length q + length p ≡ k + length (q ++ p) = omega (arith, length-append q p) in
-            let y : (k + length q) % 2 ≡ 0 + length q = omega arith in
-            rw (
-              y,
-              sets-append f 0 q p,
-              ← crc-append c q p,
-              x,
-              eqb-alike ((k + length (q ++ p)) % 2) 0 (length q + length p) 2 (λ v. omega arith) (λ v. omega arith),
-            )
-            (outcome-if (eqb (length q + length p) 2) _ _);
-      }
-
-  data-phase : (z c : ℕ) (f h : List ℕ) (ms wd : ℕ) → 0 < ms
-      → Phase bare together (location + ms) z (payload Object) (λ q. within (ms + length q) z (crcOf c q) f (sets h 0 (take 16 q)) ms wd)
-      (λ q w. (payload Object, within (ms + length w) z (crcOf c w) f (sets h 0 (take 16 w)) ms wd))
-  unfolding bareFeed feedObject feedObjectData if_then_else_
-  data-phase z c f h ms wd n =
-      record {
-        asking = λ q l. asks (ms + length q) z _ f _ ms wd _ _ (omega arith) (omega (arith, end-data (ms + length q) z ms n (omega arith)));
-        taking = λ q p a l b.
-            let x : ms + length q + length p ≡ ms + length (q ++ p) = omega (arith, length-append q p) in
-            let y : ms + length q - ms ≡ length q = omega arith in
-            rw (
-              ne-eqb ms 0 (omega arith),
-              lt-ltb (ms + length q) (ms + z) (omega arith),
-              y,
-              sets-front h 16 q p,
-              ← crc-append c q p,
-              x,
-            )
-            (if-alike (eqb (length q + length p) z) _);
-      }
-
-  crc-phase : (z c : ℕ) (f h : List ℕ) (ms wd : ℕ) → 0 < ms
-      → Phase bare together (location + ms + z) 2 framing (λ q. within (ms + z + length q) z c (sets f 0 q) h ms wd)
-      (λ q w. outcome (settleObjectCrc (within (ms + z + length q) z c (sets f 0 q) h ms wd) (sets f 0 w) (littleEndian (take 2 (sets f 0 w)))))
-  unfolding bareFeed feedObject feedObjectCrc if_then_else_
-  crc-phase z c f h ms wd n =
-      record {
-        asking = λ q l. asks (ms + z + length q) z c _ h ms wd _ _ (omega arith) (omega (arith, end-crc (ms + z + length q) z ms n (omega arith)));
-        taking = λ q p a l b.
-            let x : ms + z + length q + length p ≡ ms + z + length (q ++ p) = omega (arith, length-append q p) in
-            let y : ms + z + length q - (ms + z) ≡ 0 + length q = omega arith in
-            rw (
-              ne-eqb ms 0 (omega arith),
-              le-ltb (ms + z + length q) (ms + z) (omega arith),
-              y,
-              sets-append f 0 q p,
-              x,
-              eqb-alike (ms + z + length (q ++ p)) (ms + z + 2) (length q + length p) 2 (λ v. omega arith) (λ v. omega arith),
-            )
-            (outcome-if (eqb (length q + length p) 2) _ _);
-      }
+use Rattle.object.specs.Object.{enterObject, leaveObject, settleObjectSize, settleWord, settleVerdict, settleObjectCrc}
+use Rattle.stands.proofs.Bare.{outcome, bare}
+use Rattle.stands.proofs.Landing.{field-at, crc-at, Land, land-if, land-fell}
+use Rattle.stands.proofs.ObjectDemands.{inObject, word-phase, data-phase, crc-phase}
 
 -- ---- what the rules read
 
@@ -138,7 +43,8 @@ words-at : (src : List ℕ) (location : ℕ) → location + 2 ≤ length src
 unfolding sizeAt
 words-at src location h =
     let n : length (part src location 2) ≡ 2 = length-part src location 2 (omega arith) in
-    rw (← part-add src location 2 2, take-at (part src location 2) (part src (location + 2) 2) 2 n, drop-at (part src location 2) (part src (location + 2) 2) 2 n)
+    rw (← part-add src location 2 2, take-at (part src location 2) (part src (location + 2) 2) 2 n,
+    drop-at (part src location 2) (part src (location + 2) 2) 2 n)
 
 -- the first bytes of the data
 head-at : (src h : List ℕ) (at z : ℕ) → at + z ≤ length src → length h ≡ 16
@@ -199,21 +105,21 @@ module _ (src : List ℕ) (s : FlatWalker) (location : ℕ) (sound : s .failure 
       rw (add-zero (ms + z)) at (phase-on bare src (crc-phase s location sound z c f h ms wd p) (omega arith) λ k q.
       let w : List ℕ = part src (location + ms + z) 2 in
       crc-lands (ms + z + length q) z c (sets f 0 q) h ms wd (sets f 0 w) _ (length-sets f 0 w ∙ n) m
-      (ap littleEndian (take-sets f w 2 (length-part src (location + ms + z) 2 (omega arith)) (omega arith))) ec eh)
+      (ap littleEndian (field-at src f (location + ms + z) 2 k (omega arith))) ec eh)
 
   data-on : (z : ℕ) (f h : List ℕ) (ms wd : ℕ) → 0 < z → 0 < ms → length f ≡ 4 → length h ≡ 16
       → On bare src (inside ms z (checksum (part src location ms)) f h ms wd) (askObjectData (s .header) src handle location next ms z)
   unfolding askObjectData objectComputed crcOf
   data-on z f h ms wd o p n m =
-      rw (add-zero ms) at (phase-on bare src {t = go (payload Object) (askCrc ms z)} (data-phase s location sound z (checksum (part src location ms)) f h ms wd p) o λ k q.
+      let c : ℕ = checksum (part src location ms) in
+      rw (add-zero ms) at (phase-on bare src {t = go (payload Object) (askCrc ms z)} (data-phase s location sound z c f h ms wd p) o λ k q.
       let w : List ℕ = part src (location + ms) z in
       let e : length (part src (location + ms) z) ≡ z = length-part src (location + ms) z (omega arith) in
-      rw e (lands-go bare src (crc-on z (crcOf (checksum (part src location ms)) w) f (sets h 0 (take 16 w)) ms wd p n (length-sets h 0 (take 16 w) ∙ m)
-      (sym (crc-append seed (part src location ms) w) ∙ ap checksum (part-add src location ms z)) (head-at src h (location + ms) z k m))))
+      rw e (lands-go bare src (crc-on z (crcOf c w) f (sets h 0 (take 16 w)) ms wd p n (length-sets h 0 (take 16 w) ∙ m)
+      (crc-at src seed location ms z) (head-at src h (location + ms) z k m))))
 
   sized-lands : (d z₀ c : ℕ) (f h : List ℕ) (wd ms z : ℕ) (field : List ℕ) → 0 < ms → length field ≡ 4 → length h ≡ 16
-      → Land src (settleObjectSize (inside d z₀ c f h 0 wd) ms z (checksum (part src location ms)) field)
-      (sizeTurn (sized ms z))
+      → Land src (settleObjectSize (inside d z₀ c f h 0 wd) ms z (checksum (part src location ms)) field) (sizeTurn (sized ms z))
   unfolding settleObjectSize objectSizeTurn
   sized-lands d z₀ c f h wd ms z field p n m =
       land-if src (ltb 0 z)
@@ -222,8 +128,7 @@ module _ (src : List ℕ) (s : FlatWalker) (location : ℕ) (sound : s .failure 
       λ t. land-fell src (inside d z₀ c f h 0 wd) (fault.ObjectSize handle)
 
   second-lands : (d c : ℕ) (f h field : List ℕ) (v w : ℕ) → isLast v ≡ false → length field ≡ 4 → length h ≡ 16
-      → Land src (settleWord (inside d (v % 0x8000) c f h 0 1) 4 (checksum (part src location 4)) field w)
-      (sizeTurn (sizeOfWords v w))
+      → Land src (settleWord (inside d (v % 0x8000) c f h 0 1) 4 (checksum (part src location 4)) field w) (sizeTurn (sizeOfWords v w))
   unfolding settleWord sizeOfWords objectSizeTurn if_then_else_
   second-lands d c f h field v w e n m = rw e (split (isLast w) refl)
     where
@@ -233,7 +138,8 @@ module _ (src : List ℕ) (s : FlatWalker) (location : ℕ) (sound : s .failure 
           (sizeTurn (if b then sized 4 (v % 0x8000 + 0x8000 * w) else unending))
       split true t =
           let l : w < 0x8000 = ltb-true w 0x8000 t in
-          let z : bitOr (v % 0x8000) (w % 0x8000 * 2 ^ 15) ≡ v % 0x8000 + 0x8000 * w = or-shifted-r (w % 0x8000) 15 (v % 0x8000) (omega arith) ∙ omega arith in
+          let z : bitOr (v % 0x8000) (w % 0x8000 * 2 ^ 15) ≡ v % 0x8000 + 0x8000 * w =
+              or-shifted-r (w % 0x8000) 15 (v % 0x8000) (omega arith) ∙ omega arith in
           rw z (sized-lands d (v % 0x8000) c f h 1 4 (v % 0x8000 + 0x8000 * w) field (omega arith) n m)
       split false t = land-fell src (inside d (v % 0x8000) c f h 0 1) (fault.ObjectSize handle)
 
@@ -247,9 +153,7 @@ module _ (src : List ℕ) (s : FlatWalker) (location : ℕ) (sound : s .failure 
       rw (add-zero k) at (phase-on bare src {t = t} (word-phase s location sound k z (checksum (part src location k)) f h wd e) (omega arith) λ o q.
       let w : List ℕ = part src (location + k) 2 in
       let x : length (part src (location + k) 2) ≡ 2 = length-part src (location + k) 2 (omega arith) in
-      let y : crcOf (checksum (part src location k)) (part src (location + k) 2) ≡ checksum (part src location (k + 2)) =
-          sym (crc-append seed (part src location k) w) ∙ ap checksum (part-add src location k 2) in
-      rw (x, y, take-sets f (part src (location + k) 2) 2 x (omega arith))
+      rw (x, crc-at src seed location k 2, field-at src f (location + k) 2 o (omega arith))
       (l (k + length q) (crcOf (checksum (part src location k)) q) (sets f 0 q) (sets f 0 w) o (length-sets f 0 w ∙ n)))
 
   first-lands : (d c : ℕ) (f h field : List ℕ) (v : ℕ) → length field ≡ 4 → length h ≡ 16
@@ -273,7 +177,8 @@ module _ (src : List ℕ) (s : FlatWalker) (location : ℕ) (sound : s .failure 
 
 -- ---- entered at a location
 
-pub object-lands : (src : List ℕ) (s : FlatWalker) (location : ℕ) → s .failure ≡ failure.None → length (s .field) ≡ 4 → length (s .head) ≡ 16 → (next : Account)
+pub object-lands : (src : List ℕ) (s : FlatWalker) (location : ℕ) → s .failure ≡ failure.None → length (s .field) ≡ 4 → length (s .head) ≡ 16
+    → (next : Account)
     → ((done size crc msLen words : ℕ) (field head : List ℕ) → length field ≡ 4 → length head ≡ 16
     → On bare src (leaveObject (withObject (inUnit s stage.Object done size crc field) head location msLen words)) next)
     → Lands bare src (outcome (enterObject s location)) (objectTurn (s .header) src (s .map .handle) location next)
