@@ -21,6 +21,7 @@ use Rattle.account.specs.Asking.{Turn, bad}
 use Rattle.account.specs.Statement.{part}
 use Rattle.account.proofs.Parts.{length-part, part-add}
 use Rattle.account.proofs.Walks.{Lands, lands-bad}
+use Rattle.rules.proofs.Choose.{choose-alike}
 use Rattle.stands.proofs.Bare.{outcome, bare, failing-asks}
 
 -- ---- choices
@@ -34,9 +35,16 @@ eqb-alike a b c d f g = split (eqb a b) refl
     split false e = e ∙ sym (ne-eqb c d (λ q. eqb-false a b e (g q)))
 
 pub outcome-if : (b : Bool) (x y : Fed) → outcome (if b then x else y) ≡ if b then outcome x else outcome y
+outcome-if b x y = choose-alike outcome b (λ e. refl) (λ e. refl)
+
+-- where the last of n bytes does as those before it
+pub if-last : (x : ℕ → Answer × FlatWalker) (k n : ℕ) → x k ≡ if eqb k n then x n else x k
 unfolding if_then_else_
-outcome-if true x y = refl
-outcome-if false x y = refl
+if-last x k n = split (eqb k n) refl
+  where
+    split : (b : Bool) → eqb k n ≡ b → x k ≡ if b then x n else x k
+    split true e = ap x (eqb-true k n e)
+    split false e = refl
 
 -- a test that makes no difference
 pub if-alike : (b : Bool) (x : Answer × FlatWalker) → x ≡ if b then x else x

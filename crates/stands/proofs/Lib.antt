@@ -2,3 +2,5 @@ pub mod Bare
 pub mod Landing
 pub mod ObjectDemands
 pub mod Objects
+pub mod SectionDemands
+pub mod Sections
