@@ -87,7 +87,7 @@ machine = record { State = State; request = requestOf; feed = feedOf }
 abbrev pub walker : Walker ℕ
 walker = walkerOf machine (λ limit. giving limit 0)
 
-given-spelled : (limit : ℕ) → Spelled machine 0 given other (giving limit) (λ d. failed other) (framing, number limit)
+given-spelled : (limit : ℕ) → Spelled machine 0 given other (giving limit) (λ d. failed other) (λ d. (framing, number limit))
 given-spelled limit =
     record {
       asking = λ d h. rw zero-add;
@@ -107,7 +107,7 @@ given-spelled limit =
     other-told d p n (inr x) = refl
 
 -- its last byte, a demand of its own
-number-phase : (limit : ℕ) → Phase machine together 2 1 framing (λ q. number limit) (λ q. feedNumber limit (getD q 0 0))
+number-phase : (limit : ℕ) → Phase machine together 2 1 framing (λ q. number limit) (λ q w. feedNumber limit (getD w 0 0))
 unfolding if_then_else_
 number-phase limit = record { asking = λ q h. asked-alone q h; taking = λ q p h l k. taken-alone q p h k }
   where
@@ -125,7 +125,7 @@ number-phase limit = record { asking = λ q h. asked-alone q h; taking = λ q p 
 pub meets : Meets Of rules walker
 meets =
     walker-meets machine (λ limit. giving limit 0) Of rules λ limit src of.
-    spelled-on machine src (given-spelled limit) (omega arith) λ k.
-    lands-go machine src (phase-on machine src (number-phase limit) (omega arith) λ l.
+    spelled-on machine src (given-spelled limit) (omega arith) λ k d.
+    lands-go machine src (phase-on machine src (number-phase limit) (omega arith) λ l q.
     rw (part-cons src 2 0 (omega arith))
     (lands-if machine src (ltb (getD src 2 0) limit) (λ e. lands-go machine src (stop refl tt)) (λ e. lands-bad machine src refl)))

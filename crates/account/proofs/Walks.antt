@@ -36,17 +36,18 @@ abbrev pub alone : ℕ → ℕ
 alone k = 1
 
 module _ (M : Machine) where
-  -- n bytes at a place: behind the bytes q the machine is in `mid q`, and the last byte leads to `fin` of them all
-  pub record Phase (left : ℕ → ℕ) (at n : ℕ) (plain : Answer) (mid : List ℕ → M .State) (fin : List ℕ → Answer × M .State) : Type 0 where
+  -- n bytes at a place: behind the bytes q the machine is in `mid q`, and a piece that is the rest of them all, w, leads from there to `fin q w`
+  -- (a state that fails there may still show where the last piece began)
+  pub record Phase (left : ℕ → ℕ) (at n : ℕ) (plain : Answer) (mid : List ℕ → M .State) (fin : (q w : List ℕ) → Answer × M .State) : Type 0 where
     pub asking : (q : List ℕ) → length q < n → M .request (mid q) ≡ demand (at + length q) (left (n - length q))
     pub taking : (q p : List ℕ) → 0 < length p → length p ≤ left (n - length q) → length q + length p ≤ n
-        → M .feed (mid q) p ≡ if eqb (length q + length p) n then fin (q ++ p) else (plain, mid (q ++ p))
+        → M .feed (mid q) p ≡ if eqb (length q + length p) n then fin q (q ++ p) else (plain, mid (q ++ p))
 
-  -- given bytes at a place: behind d of them the machine is in `mid d`, behind all of them it is `fin`; another byte leads to `gone`
-  pub record Spelled (at : ℕ) (ws : List ℕ) (f : Fault) (mid gone : ℕ → M .State) (fin : Answer × M .State) : Type 0 where
+  -- given bytes at a place: behind d of them the machine is in `mid d`, and the rest of them leads from there to `fin d`, another byte to `gone d`
+  pub record Spelled (at : ℕ) (ws : List ℕ) (f : Fault) (mid gone : ℕ → M .State) (fin : ℕ → Answer × M .State) : Type 0 where
     pub asking : (d : ℕ) → d < length ws → M .request (mid d) ≡ demand (at + d) (length ws - d)
     pub taking : (d : ℕ) (p : List ℕ) → 0 < length p → d + length p ≤ length ws → p ≡ part ws d (length p)
-        → M .feed (mid d) p ≡ if eqb (d + length p) (length ws) then fin else (framing, mid (d + length p))
+        → M .feed (mid d) p ≡ if eqb (d + length p) (length ws) then fin d else (framing, mid (d + length p))
     pub tearing : (d : ℕ) (p : List ℕ) → 0 < length p → d + length p ≤ length ws → (p ≡ part ws d (length p) → ⊥)
         → M .feed (mid d) p ≡ (faulted f, gone d)
     pub broke : (d : ℕ) → M .request (gone d) ≡ broken f
@@ -55,15 +56,17 @@ module _ (M : Machine) where
     -- from this state on, the machine goes through the source as the account says
     pub data On : M .State → Account → Type 0 where
       stop : {st : M .State} {q : Asked} → M .request st ≡ q → Past src q → On st (over q)
-      amid : {at n : ℕ} {plain : Answer} {mid : List ℕ → M .State} {fin : List ℕ → Answer × M .State} {t : Turn} {st : M .State} {a : Account}
+      amid : {at n : ℕ} {plain : Answer} {mid : List ℕ → M .State} {fin : (q w : List ℕ) → Answer × M .State} {t : Turn} {st : M .State} {a : Account}
           → Phase together at n plain mid fin → (d : ℕ) → d < n → d ≤ length src - at → st ≡ mid (part src at d) → a ≡ span src (at + d) (n - d) plain t
-          → (at + n ≤ length src → fin (part src at n) .0 ≡ t .says) → (at + n ≤ length src → On (fin (part src at n) .1) (t .rest)) → On st a
-      one : {at n : ℕ} {mid : List ℕ → M .State} {fin : List ℕ → Answer × M .State} {t : Turn} {st : M .State} {a : Account}
+          → (at + n ≤ length src → (q : List ℕ) → fin q (part src at n) .0 ≡ t .says)
+          → (at + n ≤ length src → (q : List ℕ) → On (fin q (part src at n) .1) (t .rest)) → On st a
+      one : {at n : ℕ} {mid : List ℕ → M .State} {fin : (q w : List ℕ) → Answer × M .State} {t : Turn} {st : M .State} {a : Account}
           → Phase alone at n framing mid fin → (d : ℕ) → d < n → d ≤ length src - at → st ≡ mid (part src at d) → a ≡ oneByOne src (at + d) (n - d) t
-          → (at + n ≤ length src → fin (part src at n) .0 ≡ t .says) → (at + n ≤ length src → On (fin (part src at n) .1) (t .rest)) → On st a
-      spelling : {at : ℕ} {ws : List ℕ} {f : Fault} {mid gone : ℕ → M .State} {fin : Answer × M .State} {t : Turn} {st : M .State} {a : Account}
+          → (at + n ≤ length src → (q : List ℕ) → fin q (part src at n) .0 ≡ t .says)
+          → (at + n ≤ length src → (q : List ℕ) → On (fin q (part src at n) .1) (t .rest)) → On st a
+      spelling : {at : ℕ} {ws : List ℕ} {f : Fault} {mid gone : ℕ → M .State} {fin : ℕ → Answer × M .State} {t : Turn} {st : M .State} {a : Account}
           → Spelled at ws f mid gone fin → (d : ℕ) → d < length ws → st ≡ mid d → a ≡ spell src (at + d) (drop d ws) f t
-          → (at + length ws ≤ length src → fin .0 ≡ t .says) → (at + length ws ≤ length src → On (fin .1) (t .rest)) → On st a
+          → (at + length ws ≤ length src → (d : ℕ) → fin d .0 ≡ t .says) → (at + length ws ≤ length src → (d : ℕ) → On (fin d .1) (t .rest)) → On st a
 
     -- ---- what is asked
 
@@ -71,7 +74,8 @@ module _ (M : Machine) where
     on-asks (stop e h) = e
     on-asks (amid {at = at} {n = n} {plain = plain} {t = t} p d l b es ea says goes) =
         let k : length (part src at d) ≡ d = length-part src at d b in
-        rw (es, ea) (p .asking (part src at d) (omega arith) ∙ ap₂ demand (omega arith) (omega arith) ∙ sym (span-asks-some src (at + d) (n - d) plain t (omega arith)))
+        rw (es, ea) (p .asking (part src at d) (omega arith) ∙ ap₂ demand (omega arith) (omega arith)
+        ∙ sym (span-asks-some src (at + d) (n - d) plain t (omega arith)))
     on-asks (one {at = at} {n = n} {t = t} p d l b es ea says goes) =
         let k : length (part src at d) ≡ d = length-part src at d b in
         rw (es, ea) (p .asking (part src at d) (omega arith) ∙ ap₂ demand (omega arith) refl ∙ sym (oneByOne-asks-some src (at + d) (n - d) t (omega arith)))
@@ -86,13 +90,14 @@ module _ (M : Machine) where
       pub on : On (M .feed st p .1) (passed (length p) a)
 
     -- of an outcome that is known
-    goes-to : {st : M .State} {a : Account} {p : List ℕ} (r : Answer × M .State) → M .feed st p ≡ r → r .0 ≡ saysAt (length p) a → On (r .1) (passed (length p) a)
-        → Goes st a p
+    goes-to : {st : M .State} {a : Account} {p : List ℕ} (r : Answer × M .State) → M .feed st p ≡ r → r .0 ≡ saysAt (length p) a
+        → On (r .1) (passed (length p) a) → Goes st a p
     goes-to r e s o = record { says = ap (λ (x : Answer × M .State). x .0) e ∙ s; on = rw e o }
 
-    amid-goes : {at n : ℕ} {plain : Answer} {mid : List ℕ → M .State} {fin : List ℕ → Answer × M .State} (t : Turn)
+    amid-goes : {at n : ℕ} {plain : Answer} {mid : List ℕ → M .State} {fin : (q w : List ℕ) → Answer × M .State} (t : Turn)
         → Phase together at n plain mid fin → (d : ℕ) → d < n → d ≤ length src - at
-        → (at + n ≤ length src → fin (part src at n) .0 ≡ t .says) → (at + n ≤ length src → On (fin (part src at n) .1) (t .rest))
+        → (at + n ≤ length src → (q : List ℕ) → fin q (part src at n) .0 ≡ t .says)
+        → (at + n ≤ length src → (q : List ℕ) → On (fin q (part src at n) .1) (t .rest))
         → (b : ℕ) (bs : List ℕ) → suc (length bs) ≤ n - d → (b ∷ bs) ≡ part src (at + d) (suc (length bs))
         → Goes (mid (part src at d)) (span src (at + d) (n - d) plain t) (b ∷ bs)
     unfolding span if_then_else_
@@ -110,7 +115,7 @@ module _ (M : Machine) where
         joined : part src at d ++ (b ∷ bs) ≡ part src at (d + k)
         joined = ap (λ (x : List ℕ). part src at d ++ x) e ∙ part-add src at d k
 
-        fed : M .feed (mid (part src at d)) (b ∷ bs) ≡ if eqb (d + k) n then fin (part src at (d + k)) else (plain, mid (part src at (d + k)))
+        fed : M .feed (mid (part src at d)) (b ∷ bs) ≡ if eqb (d + k) n then fin (part src at d) (part src at (d + k)) else (plain, mid (part src at (d + k)))
         fed = p .taking (part src at d) (b ∷ bs) (omega arith) (omega (arith, q)) (omega (arith, q)) ∙ rw (q, joined)
 
         split : (v : Bool) → eqb (d + k) n ≡ v → Goes (mid (part src at d)) (span src (at + d) (n - d) plain t) (b ∷ bs)
@@ -118,8 +123,9 @@ module _ (M : Machine) where
             let w : d + k ≡ n = eqb-true (d + k) n v in
             let m : n - d ≡ k = omega arith in
             let z : k - k ≡ 0 = omega arith in
-            goes-to (fin (part src at n)) (fed ∙ rw (v, w)) (says (omega (arith, inside)) ∙ sym (rw m (span-last src plain t (length bs) (at + d) inside)))
-            (rw (m, span-passed src plain t k k (at + d) (omega arith) inside, z) (goes (omega (arith, inside))))
+            goes-to (fin (part src at d) (part src at n)) (fed ∙ rw (v, w))
+            (says (omega (arith, inside)) (part src at d) ∙ sym (rw m (span-last src plain t (length bs) (at + d) inside)))
+            (rw (m, span-passed src plain t k k (at + d) (omega arith) inside, z) (goes (omega (arith, inside)) (part src at d)))
         split false v =
             let w : d + k < n = omega (arith, eqb-false (d + k) n v) in
             goes-to (plain, mid (part src at (d + k))) (fed ∙ rw v) (sym (span-plain src plain t (length bs) (n - d) (at + d) (omega arith) inside))
@@ -128,9 +134,10 @@ module _ (M : Machine) where
             let y : n - d - k ≡ n - (d + k) = omega arith in
             span-passed src plain t k (n - d) (at + d) (omega arith) inside ∙ rw (x, y)) says goes)
 
-    one-goes : {at n : ℕ} {mid : List ℕ → M .State} {fin : List ℕ → Answer × M .State} (t : Turn)
+    one-goes : {at n : ℕ} {mid : List ℕ → M .State} {fin : (q w : List ℕ) → Answer × M .State} (t : Turn)
         → Phase alone at n framing mid fin → (d : ℕ) → d < n → d ≤ length src - at
-        → (at + n ≤ length src → fin (part src at n) .0 ≡ t .says) → (at + n ≤ length src → On (fin (part src at n) .1) (t .rest))
+        → (at + n ≤ length src → (q : List ℕ) → fin q (part src at n) .0 ≡ t .says)
+        → (at + n ≤ length src → (q : List ℕ) → On (fin q (part src at n) .1) (t .rest))
         → (b : ℕ) → (b ∷ []) ≡ part src (at + d) 1 → Goes (mid (part src at d)) (oneByOne src (at + d) (n - d) t) (b ∷ [])
     unfolding oneByOne if_then_else_
     one-goes {at} {n} {mid} {fin} t p d l r says goes b e = split (eqb (d + 1) n) refl
@@ -144,15 +151,16 @@ module _ (M : Machine) where
         joined : part src at d ++ (b ∷ []) ≡ part src at (d + 1)
         joined = ap (λ (x : List ℕ). part src at d ++ x) e ∙ part-add src at d 1
 
-        fed : M .feed (mid (part src at d)) (b ∷ []) ≡ if eqb (d + 1) n then fin (part src at (d + 1)) else (framing, mid (part src at (d + 1)))
+        fed : M .feed (mid (part src at d)) (b ∷ []) ≡ if eqb (d + 1) n then fin (part src at d) (part src at (d + 1)) else (framing, mid (part src at (d + 1)))
         fed = p .taking (part src at d) (b ∷ []) (omega arith) (omega arith) (omega (arith, q)) ∙ rw (q, joined)
 
         split : (v : Bool) → eqb (d + 1) n ≡ v → Goes (mid (part src at d)) (oneByOne src (at + d) (n - d) t) (b ∷ [])
         split true v =
             let w : d + 1 ≡ n = eqb-true (d + 1) n v in
             let m : n - d ≡ 1 = omega arith in
-            goes-to (fin (part src at n)) (fed ∙ rw (v, w)) (says (omega (arith, inside)) ∙ sym (rw (m, one-cons src (at + d) 0 t (omega (arith, inside)))))
-            (rw (m, one-cons src (at + d) 0 t (omega (arith, inside))) (goes (omega (arith, inside))))
+            goes-to (fin (part src at d) (part src at n)) (fed ∙ rw (v, w))
+            (says (omega (arith, inside)) (part src at d) ∙ sym (rw (m, one-cons src (at + d) 0 t (omega (arith, inside)))))
+            (rw (m, one-cons src (at + d) 0 t (omega (arith, inside))) (goes (omega (arith, inside)) (part src at d)))
         split false v =
             let w : d + 1 < n = omega (arith, eqb-false (d + 1) n v) in
             let m : n - d ≡ suc (suc (n - d - 2)) = omega arith in
@@ -162,9 +170,9 @@ module _ (M : Machine) where
             (rw (m, one-cons src (at + d) (suc (n - d - 2)) t (omega (arith, inside)))
             (one {t = t} {a = oneByOne src (suc (at + d)) (suc (n - d - 2)) t} p (d + 1) w (omega (arith, inside)) refl (rw (x, y)) says goes))
 
-    spelling-goes : {at : ℕ} {ws : List ℕ} {f : Fault} {mid gone : ℕ → M .State} {fin : Answer × M .State} (t : Turn)
+    spelling-goes : {at : ℕ} {ws : List ℕ} {f : Fault} {mid gone : ℕ → M .State} {fin : ℕ → Answer × M .State} (t : Turn)
         → Spelled at ws f mid gone fin → (d : ℕ) → d < length ws
-        → (at + length ws ≤ length src → fin .0 ≡ t .says) → (at + length ws ≤ length src → On (fin .1) (t .rest))
+        → (at + length ws ≤ length src → (d : ℕ) → fin d .0 ≡ t .says) → (at + length ws ≤ length src → (d : ℕ) → On (fin d .1) (t .rest))
         → (b : ℕ) (bs : List ℕ) → suc (length bs) ≤ length ws - d → (b ∷ bs) ≡ part src (at + d) (suc (length bs))
         → Goes (mid d) (spell src (at + d) (drop d ws) f t) (b ∷ bs)
     unfolding spell if_then_else_
@@ -183,9 +191,10 @@ module _ (M : Machine) where
         whole true v x =
             let w : d + k ≡ length ws = eqb-true (d + k) (length ws) v in
             let y : length (drop d ws) ≡ k = omega (arith, m) in
-            goes-to fin (p .taking d (b ∷ bs) (omega arith) (omega arith) x ∙ rw v)
-            (says (omega (arith, inside)) ∙ sym (spell-last src f t (length bs) (at + d) (drop d ws) y inside (sym e ∙ x)))
-            (rw (spell-passed src f t k (at + d) (drop d ws) (omega (arith, y)) inside (sym e ∙ x), drop-of-length-le (drop d ws) {i = k} (omega (arith, y))) (goes (omega (arith, inside))))
+            goes-to (fin d) (p .taking d (b ∷ bs) (omega arith) (omega arith) x ∙ rw v)
+            (says (omega (arith, inside)) d ∙ sym (spell-last src f t (length bs) (at + d) (drop d ws) y inside (sym e ∙ x)))
+            (rw (spell-passed src f t k (at + d) (drop d ws) (omega (arith, y)) inside (sym e ∙ x), drop-of-length-le (drop d ws) {i = k} (omega (arith, y)))
+            (goes (omega (arith, inside)) d))
         whole false v x =
             let w : d + k < length ws = omega (arith, eqb-false (d + k) (length ws) v) in
             goes-to (framing, mid (d + k)) (p .taking d (b ∷ bs) (omega arith) (omega arith) x ∙ rw v)
@@ -238,22 +247,23 @@ module _ (M : Machine) where
     lands-if true x y = x refl
     lands-if false x y = y refl
 
-    pub phase-on : {at n : ℕ} {plain : Answer} {mid : List ℕ → M .State} {fin : List ℕ → Answer × M .State} {t : Turn}
-        → Phase together at n plain mid fin → 0 < n → (at + n ≤ length src → Lands (fin (part src at n)) t) → On (mid []) (span src at n plain t)
+    pub phase-on : {at n : ℕ} {plain : Answer} {mid : List ℕ → M .State} {fin : (q w : List ℕ) → Answer × M .State} {t : Turn}
+        → Phase together at n plain mid fin → 0 < n → (at + n ≤ length src → (q : List ℕ) → Lands (fin q (part src at n)) t)
+        → On (mid []) (span src at n plain t)
     phase-on {at} {n} {plain} {t = t} p h l =
         let x : at + 0 ≡ at = omega arith in
         let y : n - 0 ≡ n = omega arith in
-        amid {t = t} {a = span src at n plain t} p 0 h (omega arith) refl (rw (x, y)) (λ k. l k .says) (λ k. l k .on)
+        amid {t = t} {a = span src at n plain t} p 0 h (omega arith) refl (rw (x, y)) (λ k q. l k q .says) (λ k q. l k q .on)
 
-    pub steps-on : {at n : ℕ} {mid : List ℕ → M .State} {fin : List ℕ → Answer × M .State} {t : Turn}
-        → Phase alone at n framing mid fin → 0 < n → (at + n ≤ length src → Lands (fin (part src at n)) t) → On (mid []) (oneByOne src at n t)
+    pub steps-on : {at n : ℕ} {mid : List ℕ → M .State} {fin : (q w : List ℕ) → Answer × M .State} {t : Turn}
+        → Phase alone at n framing mid fin → 0 < n → (at + n ≤ length src → (q : List ℕ) → Lands (fin q (part src at n)) t) → On (mid []) (oneByOne src at n t)
     steps-on {at} {n} {t = t} p h l =
         let x : at + 0 ≡ at = omega arith in
         let y : n - 0 ≡ n = omega arith in
-        one {t = t} {a = oneByOne src at n t} p 0 h (omega arith) refl (rw (x, y)) (λ k. l k .says) (λ k. l k .on)
+        one {t = t} {a = oneByOne src at n t} p 0 h (omega arith) refl (rw (x, y)) (λ k q. l k q .says) (λ k q. l k q .on)
 
-    pub spelled-on : {at : ℕ} {ws : List ℕ} {f : Fault} {mid gone : ℕ → M .State} {fin : Answer × M .State} {t : Turn}
-        → Spelled at ws f mid gone fin → 0 < length ws → (at + length ws ≤ length src → Lands fin t) → On (mid 0) (spell src at ws f t)
+    pub spelled-on : {at : ℕ} {ws : List ℕ} {f : Fault} {mid gone : ℕ → M .State} {fin : ℕ → Answer × M .State} {t : Turn}
+        → Spelled at ws f mid gone fin → 0 < length ws → (at + length ws ≤ length src → (d : ℕ) → Lands (fin d) t) → On (mid 0) (spell src at ws f t)
     spelled-on {at} {ws} {f} {t = t} p h l =
         let x : at + 0 ≡ at = omega arith in
-        spelling {t = t} {a = spell src at ws f t} p 0 h refl (rw x) (λ k. l k .says) (λ k. l k .on)
+        spelling {t = t} {a = spell src at ws f t} p 0 h refl (rw x) (λ k q. l k q .says) (λ k q. l k q .on)

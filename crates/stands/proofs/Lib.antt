@@ -1,1 +1,6 @@
 pub mod Bare
+pub mod Landing
+pub mod ObjectDemands
+pub mod Objects
+pub mod SectionDemands
+pub mod Sections
