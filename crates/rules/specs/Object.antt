@@ -36,6 +36,7 @@ sizeOfWords first second =
     else if isLast second then sized 4 (first % 0x8000 + 0x8000 * second)
     else unending
 
+-- the second word is looked at only where the first is not the last
 abbrev pub sizeIn : (fourBytes : List ℕ) → Size
 sizeIn bytes = sizeOfWords (littleEndian (take 2 bytes)) (littleEndian (drop 2 bytes))
 

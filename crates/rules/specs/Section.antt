@@ -16,7 +16,7 @@ use Rattle.account.specs.Account.{Account, over, framing, payload, broken}
 use Rattle.account.specs.Asking.{Turn, go, bad, span, passing, spell}
 use Rattle.rules.specs.Bytes.{littleEndian, checksum}
 
--- the four sentinels: by part, the one at the start and the one at the end
+-- the four sentinels: of the header variables, then of the classes, the one at the start and the one at the end
 unfoldable pub sentinels : List (List (List ℕ))
 sentinels =
     ((0xCF ∷ 0x7B ∷ 0x1F ∷ 0x23 ∷ 0xFD ∷ 0xDE ∷ 0x38 ∷ 0xA9 ∷ 0x5F ∷ 0x7C ∷ 0x68 ∷ 0xB8 ∷ 0x4E ∷ 0x6D ∷ 0x33 ∷ 0x5F ∷ []) ∷
