@@ -12,7 +12,7 @@ use Rattle.streaming.specs.declared.Part.{Part}
 use Rattle.streaming.specs.declared.Fault.the-variants as fault
 use Rattle.account.specs.Statement.{part}
 use Rattle.account.specs.Account.{Account, framing, payload}
-use Rattle.rules.specs.Bytes.{same}
+use Rattle.octets.specs.Octets.{same}
 use Rattle.rules.specs.Section.{startSentinel, endSentinel, frame, sectionSize, sectionComputed, sectionStored, sectionRecord}
 use Rattle.rules.specs.Section.{askSectionEnd, sectionCrcTurn, askSectionData, sectionSizeTurn, askSection}
 use Rattle.rules.specs.PlainList.{told, first, require, sectionThen}

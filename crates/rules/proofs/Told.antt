@@ -19,7 +19,7 @@ use Rattle.account.specs.Statement.{part}
 use Rattle.account.specs.Account.{Account, ask, over, recordsIn, endingOf, framing, faulted, broken}
 use Rattle.account.specs.Asking.{Turn, go, bad, span, passing, oneByOne, spell}
 use Rattle.account.specs.Tidy.{Quiet}
-use Rattle.rules.specs.Bytes.{same}
+use Rattle.octets.specs.Octets.{same}
 use Rattle.rules.specs.PlainList.{Listing, stop, require, told}
 
 abbrev pub toldTurn : Turn → Listing
