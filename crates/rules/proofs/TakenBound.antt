@@ -171,6 +171,6 @@ bytes-bound h src =
     let room : mapStart h + mapSize h - mapStart h ≡ mapSize h = omega arith in
     let objects : s .objects ≤ mapSize h / 2 = omega (arith, s .half) in
     let a = section-takes src HeaderVars vars (locatorOf h 0 .offset) (locatorOf h 0 .size) _ _
-            (section-takes src Classes classes (locatorOf h 1 .offset) (locatorOf h 1 .size) _ _ (s .takes)) in
+    (section-takes src Classes classes (locatorOf h 1 .offset) (locatorOf h 1 .size) _ _ (s .takes)) in
     let b : s .objects * h .length ≤ mapSize h / 2 * h .length = mul-le-mul-right (h .length) objects in
     omega (arith, a .count)
