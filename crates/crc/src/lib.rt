@@ -54,8 +54,10 @@ fn group(rows: &[[u16; 256]; 8], crc: u16, word: &[u8]) -> u16
     requires { ⌜ Table (now rows) × (length (now word) ≡ 8) ⌝ }
     ensures { λ r. ⌜ r ≡ crcOf crc (now (word .entry)) ⌝ }
 {
-    let x0 = mix(word[0], low(crc));
-    let x1 = mix(word[1], high(crc));
+    let l = low(crc);
+    let h = high(crc);
+    let x0 = mix(word[0], l);
+    let x1 = mix(word[1], h);
     entry(rows, 7, x0)
         ^ (entry(rows, 6, x1)
             ^ (entry(rows, 5, word[2])

@@ -1,0 +1,4 @@
+pub mod Algebra
+pub mod Laws
+pub mod Rule
+pub mod Window
