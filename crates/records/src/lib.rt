@@ -1,0 +1,97 @@
+// What an object's data begins with (the Rust's `prologue` in src/streaming/records.rs), read bit by bit by shifts and masks.
+ghost use mathlib.Core.Path.{_≡_};
+ghost use Prim.Native.Nat.{_+_, _*_, _/_, _^_, _<_, _≤_};
+ghost use lib.ListN.{length};
+ghost use Rattle.rules.specs.Prologue.{bitAt, readingHandle, behindType, readingType, prologueOf};
+ghost use Rattle.records.specs.Bits.{takenAt};
+ghost use Rattle.records.specs.Head.{ofR2000, headOf};
+
+// How the data begins, by release.
+pub enum RecordFormat {
+    // R13 and R14: the type, then the handle.
+    R14,
+    // R2000: the type, a size in bits, then the handle.
+    R2000,
+}
+
+pub struct Prologue {
+    pub type_code: u16,
+    pub handle: u64,
+}
+
+// The answer to `prologue`: none where the bits run out, or where the handle is said to be longer than eight bytes.
+pub enum Head {
+    Nothing,
+    Read(Prologue),
+}
+
+// The answer to `take_at`: the number that the bits make and the place behind them, or none where the bits run out.
+pub enum Taken {
+    Nothing,
+    Bits { value: u64, next: usize },
+}
+
+fn wide(b: u8) -> u64
+    ensures { λ r. ⌜ r ≡ b ⌝ }
+{
+    b as u64
+}
+
+// The bit at a place, the most significant bit of each byte first.
+fn bit_at(bytes: &[u8], at: usize) -> u64
+    requires { ⌜ at / 8 < length (now bytes) ⌝ }
+    ensures { λ r. ⌜ r ≡ bitAt (now (bytes .entry)) at ⌝ }
+{
+    (wide(bytes[at / 8]) >> (7 - at % 8)) & 1
+}
+
+// A number with one more bit at its end.
+fn push(value: u64, bit: u64) -> u64
+    requires { ⌜ (value < 2 ^ 63) × (bit < 2) ⌝ }
+    ensures { λ r. ⌜ r ≡ 2 * value + bit ⌝ }
+{
+    (value << 1) | bit
+}
+
+// The n bits at a place: at most 64, and none behind the last place that a usize can tell.
+pub fn take_at(bytes: &[u8], at: usize, n: usize) -> Taken
+    ensures { λ r. ⌜ r ≡ takenAt (now (bytes .entry)) at n ⌝ }
+{
+    if n > 64 {
+        return Taken::Nothing;
+    }
+    if 18446744073709551615 - n < at {
+        return Taken::Nothing;
+    }
+    let end = at + n;
+    if bytes.len() < end / 8 + (end % 8 + 7) / 8 {
+        return Taken::Nothing;
+    }
+    let mut value = 0;
+    let mut i = 0;
+    while i < n {
+        value = push(value, bit_at(bytes, at + i));
+        i += 1;
+    }
+    Taken::Bits { value, next: end }
+}
+
+// What stands behind the type in R14: 4 bits are skipped, 4 bits count, and that many bytes are the handle.
+fn handle_at(bytes: &[u8], at: usize, type_code: u16) -> Head
+    requires { ⌜ at ≤ 64 ⌝ }
+    ensures { λ r. ⌜ r ≡ headOf (readingHandle (now (bytes .entry)) «type_code» at) ⌝ }
+{
+    let Taken::Bits { value: _, next: at } = take_at(bytes, at, 4) else {
+        return Head::Nothing;
+    };
+    let Taken::Bits { value: count, next: at } = take_at(bytes, at, 4) else {
+        return Head::Nothing;
+    };
+    if count > 8 {
+        return Head::Nothing;
+    }
+    let Taken::Bits { value: handle, next: _ } = take_at(bytes, at, 8 * count as usize) else {
+        return Head::Nothing;
+    };
+    Head::Read(Prologue { type_code, handle })
+}
