@@ -14,7 +14,8 @@ pub enum RecordFormat {
     R2000,
 }
 
-pub struct Prologue {
+// What an object's data begins with.
+pub struct Opening {
     pub type_code: u16,
     pub handle: u64,
 }
@@ -22,7 +23,7 @@ pub struct Prologue {
 // The answer to `prologue`: none where the bits run out, or where the handle is said to be longer than eight bytes.
 pub enum Head {
     Nothing,
-    Read(Prologue),
+    Read(Opening),
 }
 
 // The answer to `take_at`: the number that the bits make and the place behind them, or none where the bits run out.
@@ -53,6 +54,14 @@ fn push(value: u64, bit: u64) -> u64
     (value << 1) | bit
 }
 
+// The number of two bytes.
+fn word(low: u64, high: u64) -> u16
+    requires { ⌜ (low < 256) × (high < 256) ⌝ }
+    ensures { λ r. ⌜ r ≡ low + 256 * high ⌝ }
+{
+    ((high << 8) | low) as u16
+}
+
 // The n bits at a place: at most 64, and none behind the last place that a usize can tell.
 pub fn take_at(bytes: &[u8], at: usize, n: usize) -> Taken
     ensures { λ r. ⌜ r ≡ takenAt (now (bytes .entry)) at n ⌝ }
@@ -78,7 +87,7 @@ pub fn take_at(bytes: &[u8], at: usize, n: usize) -> Taken
 
 // What stands behind the type in R14: 4 bits are skipped, 4 bits count, and that many bytes are the handle.
 fn handle_at(bytes: &[u8], at: usize, type_code: u16) -> Head
-    requires { ⌜ at ≤ 64 ⌝ }
+    requires { ⌜ at + 72 < 2 ^ 64 ⌝ }
     ensures { λ r. ⌜ r ≡ headOf (readingHandle (now (bytes .entry)) «type_code» at) ⌝ }
 {
     let Taken::Bits { value: _, next: at } = take_at(bytes, at, 4) else {
@@ -93,5 +102,57 @@ fn handle_at(bytes: &[u8], at: usize, type_code: u16) -> Head
     let Taken::Bits { value: handle, next: _ } = take_at(bytes, at, 8 * count as usize) else {
         return Head::Nothing;
     };
-    Head::Read(Prologue { type_code, handle })
+    Head::Read(Opening { type_code, handle })
+}
+
+// What stands behind the type: in R2000 32 bits are skipped.
+fn behind_type(bytes: &[u8], at: usize, format: RecordFormat, type_code: u16) -> Head
+    requires { ⌜ at + 104 < 2 ^ 64 ⌝ }
+    ensures { λ r. ⌜ r ≡ headOf (behindType (now (bytes .entry)) (ofR2000 format) «type_code» at) ⌝ }
+{
+    match format {
+        RecordFormat::R14 => handle_at(bytes, at, type_code),
+        RecordFormat::R2000 => {
+            let Taken::Bits { value: _, next: at } = take_at(bytes, at, 32) else {
+                return Head::Nothing;
+            };
+            handle_at(bytes, at, type_code)
+        }
+    }
+}
+
+// What stands behind the type's code: the type, low byte first where it has two, and what stands behind it.
+fn type_at(bytes: &[u8], at: usize, format: RecordFormat, code: u64) -> Head
+    requires { ⌜ at + 120 < 2 ^ 64 ⌝ }
+    ensures { λ r. ⌜ r ≡ headOf (readingType (now (bytes .entry)) code at (behindType (now (bytes .entry)) (ofR2000 format))) ⌝ }
+{
+    if code == 0 {
+        let Taken::Bits { value: low, next: at } = take_at(bytes, at, 8) else {
+            return Head::Nothing;
+        };
+        let Taken::Bits { value: high, next: at } = take_at(bytes, at, 8) else {
+            return Head::Nothing;
+        };
+        return behind_type(bytes, at, format, word(low, high));
+    }
+    if code == 1 {
+        let Taken::Bits { value: byte, next: at } = take_at(bytes, at, 8) else {
+            return Head::Nothing;
+        };
+        return behind_type(bytes, at, format, byte as u16);
+    }
+    if code == 2 {
+        return behind_type(bytes, at, format, 0);
+    }
+    behind_type(bytes, at, format, 256)
+}
+
+// The type and the handle that an object's data begins with.
+pub fn prologue(head: &[u8], format: RecordFormat) -> Head
+    ensures { λ r. ⌜ r ≡ headOf (prologueOf (ofR2000 format) (now (head .entry))) ⌝ }
+{
+    let Taken::Bits { value: code, next: at } = take_at(head, 0, 2) else {
+        return Head::Nothing;
+    };
+    type_at(head, at, format, code)
 }
