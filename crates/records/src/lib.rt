@@ -1,6 +1,6 @@
 // What an object's data begins with (the Rust's `prologue` in src/streaming/records.rs), read bit by bit by shifts and masks.
 ghost use mathlib.Core.Path.{_≡_};
-ghost use Prim.Native.Nat.{_+_, _*_, _/_, _^_, _<_, _≤_};
+ghost use Prim.Native.Nat.{_+_, _*_, _/_, _^_, _<_};
 ghost use lib.ListN.{length};
 ghost use Rattle.rules.specs.Prologue.{bitAt, readingHandle, behindType, readingType, prologueOf};
 ghost use Rattle.records.specs.Bits.{takenAt};
@@ -69,7 +69,7 @@ pub fn take_at(bytes: &[u8], at: usize, n: usize) -> Taken
     if n > 64 {
         return Taken::Nothing;
     }
-    if 18446744073709551615 - n < at {
+    if at > usize::MAX - n {
         return Taken::Nothing;
     }
     let end = at + n;
@@ -93,13 +93,21 @@ fn handle_at(bytes: &[u8], at: usize, type_code: u16) -> Head
     let Taken::Bits { value: _, next: at } = take_at(bytes, at, 4) else {
         return Head::Nothing;
     };
-    let Taken::Bits { value: count, next: at } = take_at(bytes, at, 4) else {
+    let Taken::Bits {
+        value: count,
+        next: at,
+    } = take_at(bytes, at, 4)
+    else {
         return Head::Nothing;
     };
     if count > 8 {
         return Head::Nothing;
     }
-    let Taken::Bits { value: handle, next: _ } = take_at(bytes, at, 8 * count as usize) else {
+    let Taken::Bits {
+        value: handle,
+        next: _,
+    } = take_at(bytes, at, 8 * count as usize)
+    else {
         return Head::Nothing;
     };
     Head::Read(Opening { type_code, handle })
@@ -127,16 +135,28 @@ fn type_at(bytes: &[u8], at: usize, format: RecordFormat, code: u64) -> Head
     ensures { λ r. ⌜ r ≡ headOf (readingType (now (bytes .entry)) code at (behindType (now (bytes .entry)) (ofR2000 format))) ⌝ }
 {
     if code == 0 {
-        let Taken::Bits { value: low, next: at } = take_at(bytes, at, 8) else {
+        let Taken::Bits {
+            value: low,
+            next: at,
+        } = take_at(bytes, at, 8)
+        else {
             return Head::Nothing;
         };
-        let Taken::Bits { value: high, next: at } = take_at(bytes, at, 8) else {
+        let Taken::Bits {
+            value: high,
+            next: at,
+        } = take_at(bytes, at, 8)
+        else {
             return Head::Nothing;
         };
         return behind_type(bytes, at, format, word(low, high));
     }
     if code == 1 {
-        let Taken::Bits { value: byte, next: at } = take_at(bytes, at, 8) else {
+        let Taken::Bits {
+            value: byte,
+            next: at,
+        } = take_at(bytes, at, 8)
+        else {
             return Head::Nothing;
         };
         return behind_type(bytes, at, format, byte as u16);
@@ -151,7 +171,11 @@ fn type_at(bytes: &[u8], at: usize, format: RecordFormat, code: u64) -> Head
 pub fn prologue(head: &[u8], format: RecordFormat) -> Head
     ensures { λ r. ⌜ r ≡ headOf (prologueOf (ofR2000 format) (now (head .entry))) ⌝ }
 {
-    let Taken::Bits { value: code, next: at } = take_at(head, 0, 2) else {
+    let Taken::Bits {
+        value: code,
+        next: at,
+    } = take_at(head, 0, 2)
+    else {
         return Head::Nothing;
     };
     type_at(head, at, format, code)

@@ -7,10 +7,6 @@ use Rattle.rules.specs.Prologue.{behindType}
 use Rattle.records.proofs.Bits.{nothing-read, taken-next, bits-read}
 use Rattle.records.proofs.behind_type.Statement.{statement}
 use Rattle.records.proofs.behind_type.Tie as tie
-use Rattle.records.proofs.behind_type.Reads as reads
-use Rattle.records.proofs.behind_type.Lts as lts
-use Rattle.records.proofs.handle_at.Reads as handle-at-reads
-use Rattle.records.proofs.take_at.Reads as take-at-reads
 
 enum-told : tie.Need-enum-told
 enum-told c = search needs
@@ -33,8 +29,10 @@ enum-told-3 c = search needs
 returns : tie.Need-returns
 unfolding behindType if_then_else_
 returns c =
-    rw (c .before .before .before .enum-told2 .given .1,
-    nothing-read _ _ _ (c .before .before .take-at .ensures) (omega arith) (omega arith) (c .enum-told3 .given .1))
+    rw (
+      c .before .before .before .enum-told2 .given .1,
+      nothing-read _ _ _ (c .before .before .take-at .ensures) (omega arith) (omega arith) (c .enum-told3 .given .1),
+    )
 
 handle-at-requires-2 : tie.Need-handle-at-requires-2
 handle-at-requires-2 c κs =
@@ -49,8 +47,10 @@ returns-3 : tie.Need-returns-3
 unfolding behindType if_then_else_
 returns-3 c =
     let first = c .before .before in
-    rw (first .before .before .before .enum-told2 .given .1,
-    bits-read _ _ _ (first .before .before .take-at .ensures) (first .at .given .1)) (c .handle-at2 .ensures)
+    rw (
+      first .before .before .before .enum-told2 .given .1,
+      bits-read _ _ _ (first .before .before .take-at .ensures) (first .at .given .1),
+    ) (c .handle-at2 .ensures)
 
 pub behind-type-spec : {M : Type 1} → statement M
 behind-type-spec =

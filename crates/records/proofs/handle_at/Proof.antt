@@ -35,17 +35,21 @@ unfolding readingHandle
 returns-2 c =
     let first = c .before .before .before .before in
     let behind = taken-next _ _ _ (first .before .before .take-at .ensures) (first .at .given .1) in
-    rw (bits-read _ _ _ (first .before .before .take-at .ensures) (first .at .given .1),
-    nothing-read _ _ _ (c .before .before .take-at2 .ensures) (omega arith) (omega (arith, behind)) (c .enum-told2 .given .1))
+    rw (
+      bits-read _ _ _ (first .before .before .take-at .ensures) (first .at .given .1),
+      nothing-read _ _ _ (c .before .before .take-at2 .ensures) (omega arith) (omega (arith, behind)) (c .enum-told2 .given .1),
+    )
 
 returns-3 : tie.Need-returns-3
 unfolding readingHandle if_then_else_
 returns-3 c =
     let second = c .before .before in
     let first = second .before .before .before .before in
-    rw (bits-read _ _ _ (first .before .before .take-at .ensures) (first .at .given .1),
-    bits-read _ _ _ (second .before .before .take-at2 .ensures) (second .count .given .1),
-    lt-ltb 8 _ (c .if1 .taken))
+    rw (
+      bits-read _ _ _ (first .before .before .take-at .ensures) (first .at .given .1),
+      bits-read _ _ _ (second .before .before .take-at2 .ensures) (second .count .given .1),
+      lt-ltb 8 (second .count .given .0 .0) (omega arith),
+    )
 
 mul-take-at : tie.Need-mul-take-at
 mul-take-at c = search needs
@@ -67,10 +71,12 @@ returns-4 c =
     let first = second .before .before .before .before in
     let behind = taken-next _ _ _ (first .before .before .take-at .ensures) (first .at .given .1) in
     let behind2 = taken-next _ _ _ (second .before .before .take-at2 .ensures) (second .count .given .1) in
-    rw (bits-read _ _ _ (first .before .before .take-at .ensures) (first .at .given .1),
-    bits-read _ _ _ (second .before .before .take-at2 .ensures) (second .count .given .1),
-    le-ltb 8 _ (test .if1 .left),
-    nothing-read _ _ _ (c .before .before .take-at3 .ensures) (omega arith) (omega (arith, behind, behind2)) (c .enum-told3 .given .1))
+    rw (
+      bits-read _ _ _ (first .before .before .take-at .ensures) (first .at .given .1),
+      bits-read _ _ _ (second .before .before .take-at2 .ensures) (second .count .given .1),
+      le-ltb 8 (second .count .given .0 .0) (omega arith),
+      nothing-read _ _ _ (c .before .before .take-at3 .ensures) (omega arith) (omega (arith, behind, behind2)) (c .enum-told3 .given .1),
+    )
 
 returns-5 : tie.Need-returns-5
 unfolding readingHandle if_then_else_
@@ -79,10 +85,12 @@ returns-5 c =
     let test = third .before .before .before in
     let second = test .before .before in
     let first = second .before .before .before .before in
-    rw (bits-read _ _ _ (first .before .before .take-at .ensures) (first .at .given .1),
-    bits-read _ _ _ (second .before .before .take-at2 .ensures) (second .count .given .1),
-    le-ltb 8 _ (test .if1 .left),
-    bits-read _ _ _ (third .before .before .take-at3 .ensures) (third .handle .given .1))
+    rw (
+      bits-read _ _ _ (first .before .before .take-at .ensures) (first .at .given .1),
+      bits-read _ _ _ (second .before .before .take-at2 .ensures) (second .count .given .1),
+      le-ltb 8 (second .count .given .0 .0) (omega arith),
+      bits-read _ _ _ (third .before .before .take-at3 .ensures) (third .handle .given .1),
+    )
 
 pub handle-at-spec : {M : Type 1} → statement M
 handle-at-spec =

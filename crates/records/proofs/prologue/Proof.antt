@@ -5,10 +5,6 @@ use Rattle.rules.specs.Prologue.{prologueOf}
 use Rattle.records.proofs.Bits.{nothing-read, taken-next, bits-read}
 use Rattle.records.proofs.prologue.Statement.{statement}
 use Rattle.records.proofs.prologue.Tie as tie
-use Rattle.records.proofs.prologue.Reads as reads
-use Rattle.records.proofs.prologue.Lts as lts
-use Rattle.records.proofs.take_at.Reads as take-at-reads
-use Rattle.records.proofs.type_at.Reads as type-at-reads
 
 take-at-requires : tie.Need-take-at-requires
 take-at-requires c κs = search needs

@@ -7,11 +7,6 @@ use Rattle.rules.specs.Prologue.{readingType}
 use Rattle.records.proofs.Bits.{nothing-read, taken-value, taken-next, bits-read}
 use Rattle.records.proofs.type_at.Statement.{statement}
 use Rattle.records.proofs.type_at.Tie as tie
-use Rattle.records.proofs.type_at.Reads as reads
-use Rattle.records.proofs.type_at.Lts as lts
-use Rattle.records.proofs.behind_type.Reads as behind-type-reads
-use Rattle.records.proofs.take_at.Reads as take-at-reads
-use Rattle.records.proofs.word.Reads as word-reads
 
 take-at-requires : tie.Need-take-at-requires
 take-at-requires c κs = search needs
@@ -25,8 +20,10 @@ enum-told c = search needs
 returns : tie.Need-returns
 unfolding readingType if_then_else_
 returns c =
-    rw (eq-eqb _ 0 (c .before .before .before .if1 .taken),
-    nothing-read _ _ _ (c .before .before .take-at .ensures) (omega arith) (omega arith) (c .enum-told .given .1))
+    rw (
+      eq-eqb _ 0 (c .before .before .before .if1 .taken),
+      nothing-read _ _ _ (c .before .before .take-at .ensures) (omega arith) (omega arith) (c .enum-told .given .1),
+    )
 
 take-at-requires-2 : tie.Need-take-at-requires-2
 take-at-requires-2 c κs = search needs
@@ -42,33 +39,41 @@ unfolding readingType if_then_else_
 returns-2 c =
     let first = c .before .before .before .before in
     let behind = taken-next _ _ _ (first .before .before .take-at .ensures) (first .low .given .1) in
-    rw (eq-eqb _ 0 (first .before .before .before .if1 .taken),
-    bits-read _ _ _ (first .before .before .take-at .ensures) (first .low .given .1),
-    nothing-read _ _ _ (c .before .before .take-at2 .ensures) (omega arith) (omega (arith, behind)) (c .enum-told2 .given .1))
+    rw (
+      eq-eqb _ 0 (first .before .before .before .if1 .taken),
+      bits-read _ _ _ (first .before .before .take-at .ensures) (first .low .given .1),
+      nothing-read _ _ _ (c .before .before .take-at2 .ensures) (omega arith) (omega (arith, behind)) (c .enum-told2 .given .1),
+    )
 
 word-requires : tie.Need-word-requires
 word-requires c κs =
     let second = c .before in
     let first = second .before .before .before .before in
-    (taken-value _ _ _ (first .before .before .take-at .ensures) (first .low .given .1),
-    taken-value _ _ _ (second .before .before .take-at2 .ensures) (second .high .given .1))
+    let low-lt = taken-value _ _ _ (first .before .before .take-at .ensures) (first .low .given .1) in
+    let high-lt = taken-value _ _ _ (second .before .before .take-at2 .ensures) (second .high .given .1) in
+    (omega arith, omega arith)
 
 behind-type-requires : tie.Need-behind-type-requires
 behind-type-requires c κs =
     let second = c .before .before in
     let first = second .before .before .before .before in
-    omega (arith, taken-next _ _ _ (first .before .before .take-at .ensures) (first .low .given .1),
-    taken-next _ _ _ (second .before .before .take-at2 .ensures) (second .high .given .1))
+    omega (
+      arith,
+      taken-next _ _ _ (first .before .before .take-at .ensures) (first .low .given .1),
+      taken-next _ _ _ (second .before .before .take-at2 .ensures) (second .high .given .1),
+    )
 
 returns-3 : tie.Need-returns-3
 unfolding readingType if_then_else_
 returns-3 c =
     let second = c .before .before .before in
     let first = second .before .before .before .before in
-    rw (eq-eqb _ 0 (first .before .before .before .if1 .taken),
-    bits-read _ _ _ (first .before .before .take-at .ensures) (first .low .given .1),
-    bits-read _ _ _ (second .before .before .take-at2 .ensures) (second .high .given .1),
-    ← c .before .word .ensures) (c .behind-type .ensures)
+    rw (
+      eq-eqb _ 0 (first .before .before .before .if1 .taken),
+      bits-read _ _ _ (first .before .before .take-at .ensures) (first .low .given .1),
+      bits-read _ _ _ (second .before .before .take-at2 .ensures) (second .high .given .1),
+      ← c .before .word .ensures,
+    ) (c .behind-type .ensures)
 
 take-at-requires-3 : tie.Need-take-at-requires-3
 take-at-requires-3 c κs = search needs
@@ -83,8 +88,11 @@ returns-4 : tie.Need-returns-4
 unfolding readingType if_then_else_
 returns-4 c =
     let test = c .before .before .before in
-    rw (ne-eqb _ 0 (test .before .if1 .left), eq-eqb _ 1 (test .if2 .taken),
-    nothing-read _ _ _ (c .before .before .take-at3 .ensures) (omega arith) (omega arith) (c .enum-told3 .given .1))
+    rw (
+      ne-eqb _ 0 (test .before .if1 .left),
+      eq-eqb _ 1 (test .if2 .taken),
+      nothing-read _ _ _ (c .before .before .take-at3 .ensures) (omega arith) (omega arith) (c .enum-told3 .given .1),
+    )
 
 cast-behind-type : tie.Need-cast-behind-type
 cast-behind-type c =
@@ -101,8 +109,11 @@ unfolding readingType if_then_else_
 returns-5 c =
     let first = c .before .before in
     let test = first .before .before .before in
-    rw (ne-eqb _ 0 (test .before .if1 .left), eq-eqb _ 1 (test .if2 .taken),
-    bits-read _ _ _ (first .before .before .take-at3 .ensures) (first .byte .given .1)) (c .behind-type2 .ensures)
+    rw (
+      ne-eqb _ 0 (test .before .if1 .left),
+      eq-eqb _ 1 (test .if2 .taken),
+      bits-read _ _ _ (first .before .before .take-at3 .ensures) (first .byte .given .1),
+    ) (c .behind-type2 .ensures)
 
 behind-type-requires-3 : tie.Need-behind-type-requires-3
 behind-type-requires-3 c κs = search needs
@@ -111,8 +122,11 @@ returns-6 : tie.Need-returns-6
 unfolding readingType if_then_else_
 returns-6 c =
     let test = c .before in
-    rw (ne-eqb _ 0 (test .before .before .if1 .left), ne-eqb _ 1 (test .before .if2 .left),
-    eq-eqb _ 2 (test .if3 .taken)) (c .behind-type3 .ensures)
+    rw (
+      ne-eqb _ 0 (test .before .before .if1 .left),
+      ne-eqb _ 1 (test .before .if2 .left),
+      eq-eqb _ 2 (test .if3 .taken),
+    ) (c .behind-type3 .ensures)
 
 behind-type-requires-4 : tie.Need-behind-type-requires-4
 behind-type-requires-4 c κs = search needs
@@ -121,8 +135,11 @@ returns-7 : tie.Need-returns-7
 unfolding readingType if_then_else_
 returns-7 c =
     let test = c .before in
-    rw (ne-eqb _ 0 (test .before .before .if1 .left), ne-eqb _ 1 (test .before .if2 .left),
-    ne-eqb _ 2 (test .if3 .left)) (c .behind-type4 .ensures)
+    rw (
+      ne-eqb _ 0 (test .before .before .if1 .left),
+      ne-eqb _ 1 (test .before .if2 .left),
+      ne-eqb _ 2 (test .if3 .left),
+    ) (c .behind-type4 .ensures)
 
 pub type-at-spec : {M : Type 1} → statement M
 type-at-spec =
