@@ -6,3 +6,13 @@ pub mod Does
 pub mod Stands
 pub mod Unique
 pub mod Refused
+pub mod Parts
+pub mod Bounds
+pub mod Brought
+pub mod Carried
+pub mod Main
+pub mod Instance
+pub mod Cases
+pub mod Demands
+pub mod Walks
+pub mod Walking

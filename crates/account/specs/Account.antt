@@ -85,6 +85,15 @@ unfoldable pub bytesTaken : Account → ℕ
 bytesTaken (ask at left says rest) = suc (bytesTaken rest)
 bytesTaken (over q) = 0
 
+-- The most bytes that pieces can bring: the piece that is at fault may hold all the rest of its demand.
+abbrev pub broughtBy : (left : ℕ) → Answer → ℕ
+broughtBy left (answer.Step s) = 1
+broughtBy left (answer.Refused e) = left
+
+unfoldable pub bytesAtMost : Account → ℕ
+bytesAtMost (ask at left says rest) = broughtBy left says + bytesAtMost rest
+bytesAtMost (over q) = 0
+
 -- 1 for a byte that is answered as payload
 abbrev pub payloadStep : Step → ℕ
 payloadStep step.Framing = 0

@@ -9,7 +9,7 @@ use Rattle.streaming.specs.declared.Request.{Request}
 use Rattle.streaming.specs.declared.Fault.{Fault}
 use Rattle.streaming.specs.declared.Asked.{Asked}
 use Rattle.streaming.specs.declared.Asked.the-variants as asked
-use Rattle.account.specs.Account.{Account, recordsIn, endingOf, faulted, broken}
+use Rattle.account.specs.Account.{Account, recordsIn, endingOf, bytesTaken, bytesAtMost, faulted, broken}
 use Rattle.account.specs.Statement.{Call, takes, endedBy, Walker}
 
 module _ {H : Type 0} (W : Walker H) where
@@ -44,6 +44,12 @@ pub record Whole {H : Type 0} (W : Walker H) (a : Account) (st : W .State) (cs :
   pub records : committed W st cs ≡ recordsIn a
   pub request : W .request (run W st cs) ≡ endingOf a
   pub endOfInput : W .endOfInput (run W st cs) ≡ endedBy (endingOf a)
+
+-- a run from a state takes no more than an account holds: so many calls, and so many bytes, the piece at fault whole; with no fault yet, byte for byte
+pub record Bounded {H : Type 0} (W : Walker H) (a : Account) (st : W .State) (cs : List Call) : Type 0 where
+  pub calls : accepted W st cs ≤ bytesTaken a
+  pub atMost : bytes W st cs ≤ bytesAtMost a
+  pub sound : ((f : Fault) → W .request (run W st cs) ≡ broken f → ⊥) → bytes W st cs ≤ bytesTaken a
 
 -- in this state a fault is all that is heard, whatever the call
 pub record Repeats {H : Type 0} (W : Walker H) (f : Fault) (st : W .State) : Type 0 where

@@ -23,7 +23,7 @@ fn size_at(s: &[u8], at: usize) -> usize
     if left < 7 {
         return 0;
     }
-    let n = endian::number_at(s, at + 3, 4) as usize;
+    let n = octets::number_at(s, at + 3, 4) as usize;
     if left - 7 < n { 0 } else { 7 + n }
 }
 
@@ -55,7 +55,7 @@ fn answer(rows: &[[u16; 256]; 8], op: &[u8]) -> u16
     if n < 7 {
         return if n < 3 { 0 } else { entry(rows, op[1], op[2]) };
     }
-    let seed = endian::number_at(op, 1, 2) as u16;
+    let seed = octets::number_at(op, 1, 2) as u16;
     let letter = op[0];
     if letter == b'C' {
         return crc::crc8(seed, &op[7..]);

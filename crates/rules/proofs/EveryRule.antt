@@ -3,7 +3,7 @@ use Rattle.streaming.specs.Choose.{if_then_else_}
 use Rattle.crc.specs.Crc.{polynomialIf, step, steps, crcByte, crcOf}
 use Rattle.account.specs.Account.{recordsIn, endingOf, bytesTaken, payloadTaken}
 use Rattle.account.specs.Asking.{span, oneByOne, spell}
-use Rattle.rules.specs.Bytes.{littleEndian, bigEndian, same}
+use Rattle.octets.specs.Octets.{littleEndian, bigEndian, same}
 use Rattle.rules.specs.Header.{firstOf, locatorOf, mapEnd, isR2000, isOutside, startRefusal}
 use Rattle.rules.specs.Section.{sentinels, sectionSize, sectionComputed, sectionStored, sectionRecord}
 use Rattle.rules.specs.Section.{askSectionEnd, sectionCrcTurn, askSectionData, sectionSizeTurn, askSection}

@@ -10,7 +10,7 @@ use Rattle.streaming.specs.declared.Locator.{Locator}
 use Rattle.streaming.specs.declared.FlatHeader.{FlatHeader}
 use Rattle.streaming.specs.declared.StreamError.{StreamError}
 use Rattle.streaming.specs.declared.StreamError.the-variants as error
-use Rattle.rules.specs.Bytes.{same}
+use Rattle.octets.specs.Octets.{same}
 
 -- ---- locators
 

@@ -10,7 +10,8 @@ use Rattle.streaming.specs.declared.Asked.the-variants as asked
 use Rattle.account.specs.Statement.{part}
 use Rattle.account.specs.Account.{Account, over, framing, finished, broken}
 use Rattle.account.specs.Asking.{Turn, go, bad, span, passing, oneByOne}
-use Rattle.rules.specs.Bytes.{bigEndian, checksum}
+use Rattle.octets.specs.Octets.{bigEndian}
+use Rattle.rules.specs.Bytes.{checksum}
 use Rattle.rules.specs.Header.{mapEnd}
 use Rattle.rules.specs.Entry.{Entry, leads, refused, entriesOf}
 use Rattle.rules.specs.Object.{objectTurn}

@@ -16,7 +16,8 @@ use Rattle.streaming.specs.declared.Fault.the-variants as fault
 use Rattle.account.specs.Statement.{part}
 use Rattle.account.specs.Account.{Account, framing, payload}
 use Rattle.account.specs.Asking.{Turn, go, bad, span, passing}
-use Rattle.rules.specs.Bytes.{littleEndian, checksum}
+use Rattle.octets.specs.Octets.{littleEndian}
+use Rattle.rules.specs.Bytes.{checksum}
 use Rattle.rules.specs.Header.{headerEnd, mapStart, mapEnd, isR2000}
 use Rattle.rules.specs.Prologue.{Prologue, prologueOf}
 

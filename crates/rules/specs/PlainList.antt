@@ -16,7 +16,7 @@ use Rattle.streaming.specs.declared.Asked.{Asked}
 use Rattle.streaming.specs.declared.Asked.the-variants as asked
 use Rattle.account.specs.Statement.{part}
 use Rattle.account.specs.Account.{Account, recordsIn, endingOf, demand, broken}
-use Rattle.rules.specs.Bytes.{same}
+use Rattle.octets.specs.Octets.{same}
 use Rattle.rules.specs.Header.{locatorOf, mapStart, mapSize, mapEnd}
 use Rattle.rules.specs.Section.{startSentinel, endSentinel, frame, sectionSize, sectionComputed, sectionStored, sectionRecord}
 use Rattle.rules.specs.Entry.{Entry, leads, refused}

@@ -14,7 +14,8 @@ use Rattle.streaming.specs.declared.Fault.the-variants as fault
 use Rattle.account.specs.Statement.{part}
 use Rattle.account.specs.Account.{Account, over, framing, payload, broken}
 use Rattle.account.specs.Asking.{Turn, go, bad, span, passing, spell}
-use Rattle.rules.specs.Bytes.{littleEndian, checksum}
+use Rattle.octets.specs.Octets.{littleEndian}
+use Rattle.rules.specs.Bytes.{checksum}
 
 -- the four sentinels: by part, the one at the start and the one at the end
 unfoldable pub sentinels : List (List (List ℕ))

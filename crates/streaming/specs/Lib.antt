@@ -1,3 +1,4 @@
 pub mod Choose
 pub mod Numbers
 pub mod Record
+pub mod State

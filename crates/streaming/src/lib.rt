@@ -169,3 +169,21 @@ pub struct FlatWalker {
     pub map: MapCursor,
     pub failure: Failure,
 }
+
+// The answer to `start`: a walk has begun, or the header is refused.
+pub enum Start {
+    Begun,
+    Refused(StreamError),
+}
+
+// What `start` gives back. Where the header is refused there is no walk: the state is not to be used.
+pub struct Started {
+    pub answer: Start,
+    pub state: FlatWalker,
+}
+
+// What `feed` gives back: the answer, and the state to go on with. A refused offset or length gives the state back as it was.
+pub struct Fed {
+    pub answer: Answer,
+    pub state: FlatWalker,
+}

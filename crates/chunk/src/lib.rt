@@ -1,0 +1,1 @@
+// Stage code to come.

@@ -1,0 +1,2 @@
+pub mod Object
+pub mod Fit
