@@ -24,19 +24,6 @@ fn size_at(s: &[u8], at: usize) -> usize
     if left - 2 < n { 0 } else { 2 + n }
 }
 
-// Whether the input is operations and nothing else.
-fn whole(s: &[u8]) -> bool {
-    let mut at = 0;
-    while at < s.len() {
-        let size = size_at(s, at);
-        if size == 0 {
-            return false;
-        }
-        at += size;
-    }
-    true
-}
-
 fn print(head: records::Head) {
     match head {
         records::Head::Nothing => {
@@ -62,16 +49,20 @@ fn answer(op: &[u8]) -> records::Head {
     records::prologue(&op[2..], records::RecordFormat::R2000)
 }
 
-fn answers(s: &[u8]) {
+// Goes through the operations, and answers each if told to. Whether the input is operations and nothing else.
+fn go_through(s: &[u8], answering: bool) -> bool {
     let mut at = 0;
     while at < s.len() {
         let size = size_at(s, at);
         if size == 0 {
-            return;
+            return false;
         }
-        print(answer(&s[at..at + size]));
+        if answering {
+            print(answer(&s[at..at + size]));
+        }
         at += size;
     }
+    true
 }
 
 fn main() {
@@ -81,8 +72,8 @@ fn main() {
         io::write_all(1, b"I\n");
         return;
     }
-    if whole(&input[..n]) {
-        answers(&input[..n]);
+    if go_through(&input[..n], false) {
+        go_through(&input[..n], true);
     } else {
         io::write_all(1, b"I\n");
     }

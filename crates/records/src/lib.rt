@@ -4,7 +4,7 @@ ghost use Prim.Native.Nat.{_+_, _*_, _/_, _^_, _<_};
 ghost use lib.ListN.{length};
 ghost use Rattle.rules.specs.Prologue.{bitAt, readingHandle, behindType, readingType, prologueOf};
 ghost use Rattle.records.specs.Bits.{takenAt};
-ghost use Rattle.records.specs.Head.{ofR2000, headOf};
+ghost use Rattle.records.specs.Answer.{ofR2000, headOf};
 
 // How the data begins, by release.
 pub enum RecordFormat {

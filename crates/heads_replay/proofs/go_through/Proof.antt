@@ -1,15 +1,15 @@
--- `answers` meets its contract.
+-- `go_through` meets its contract.
 use Prim.Native.Nat.{_≤_, _-_}
 use lib.ListN.{length}
 use borrow.Author.Needs.{needs}
-use Rattle.heads_replay.proofs.answers.Statement.{statement}
-use Rattle.heads_replay.proofs.answers.Tie as tie
+use Rattle.heads_replay.proofs.go_through.Statement.{statement}
+use Rattle.heads_replay.proofs.go_through.Tie as tie
 
 abbrev Inv-loop : tie.InvT-loop
-Inv-loop s at₀ at = at ≤ length s
+Inv-loop s answering at₀ at = at ≤ length s
 
 abbrev μ-loop : tie.MeasureT-loop
-μ-loop s at₀ at = length s - at
+μ-loop s answering at₀ at = length s - at
 
 loop-holds : tie.Need-loop-holds Inv-loop μ-loop
 loop-holds c = search needs
@@ -50,8 +50,8 @@ loop-again c = search needs
 returns-2 : tie.Need-returns-2 Inv-loop μ-loop
 returns-2 c = search needs
 
-pub answers-spec : {M : Type 1} → statement M
-answers-spec =
+pub go-through-spec : {M : Type 1} → statement M
+go-through-spec =
     tie.close
     (tie.spec
     Inv-loop
