@@ -29,7 +29,7 @@ pub enum Head {
 // The answer to `take_at`: the number that the bits make and the place behind them, or none where the bits run out.
 pub enum Taken {
     Nothing,
-    Bits { value: u64, next: usize },
+    Bits(u64, usize),
 }
 
 fn wide(b: u8) -> u64
@@ -82,7 +82,7 @@ pub fn take_at(bytes: &[u8], at: usize, n: usize) -> Taken
         value = push(value, bit_at(bytes, at + i));
         i += 1;
     }
-    Taken::Bits { value, next: end }
+    Taken::Bits(value, end)
 }
 
 // What stands behind the type in R14: 4 bits are skipped, 4 bits count, and that many bytes are the handle.
@@ -90,24 +90,16 @@ fn handle_at(bytes: &[u8], at: usize, type_code: u16) -> Head
     requires { ⌜ at + 72 < 2 ^ 64 ⌝ }
     ensures { λ r. ⌜ r ≡ headOf (readingHandle (now (bytes .entry)) «type_code» at) ⌝ }
 {
-    let Taken::Bits { value: _, next: at } = take_at(bytes, at, 4) else {
+    let Taken::Bits(_, at) = take_at(bytes, at, 4) else {
         return Head::Nothing;
     };
-    let Taken::Bits {
-        value: count,
-        next: at,
-    } = take_at(bytes, at, 4)
-    else {
+    let Taken::Bits(count, at) = take_at(bytes, at, 4) else {
         return Head::Nothing;
     };
     if count > 8 {
         return Head::Nothing;
     }
-    let Taken::Bits {
-        value: handle,
-        next: _,
-    } = take_at(bytes, at, 8 * count as usize)
-    else {
+    let Taken::Bits(handle, _) = take_at(bytes, at, 8 * count as usize) else {
         return Head::Nothing;
     };
     Head::Read(Opening { type_code, handle })
@@ -121,7 +113,7 @@ fn behind_type(bytes: &[u8], at: usize, format: RecordFormat, type_code: u16) ->
     match format {
         RecordFormat::R14 => handle_at(bytes, at, type_code),
         RecordFormat::R2000 => {
-            let Taken::Bits { value: _, next: at } = take_at(bytes, at, 32) else {
+            let Taken::Bits(_, at) = take_at(bytes, at, 32) else {
                 return Head::Nothing;
             };
             handle_at(bytes, at, type_code)
@@ -135,28 +127,16 @@ fn type_at(bytes: &[u8], at: usize, format: RecordFormat, code: u64) -> Head
     ensures { λ r. ⌜ r ≡ headOf (readingType (now (bytes .entry)) code at (behindType (now (bytes .entry)) (ofR2000 format))) ⌝ }
 {
     if code == 0 {
-        let Taken::Bits {
-            value: low,
-            next: at,
-        } = take_at(bytes, at, 8)
-        else {
+        let Taken::Bits(low, at) = take_at(bytes, at, 8) else {
             return Head::Nothing;
         };
-        let Taken::Bits {
-            value: high,
-            next: at,
-        } = take_at(bytes, at, 8)
-        else {
+        let Taken::Bits(high, at) = take_at(bytes, at, 8) else {
             return Head::Nothing;
         };
         return behind_type(bytes, at, format, word(low, high));
     }
     if code == 1 {
-        let Taken::Bits {
-            value: byte,
-            next: at,
-        } = take_at(bytes, at, 8)
-        else {
+        let Taken::Bits(byte, at) = take_at(bytes, at, 8) else {
             return Head::Nothing;
         };
         return behind_type(bytes, at, format, byte as u16);
@@ -171,11 +151,7 @@ fn type_at(bytes: &[u8], at: usize, format: RecordFormat, code: u64) -> Head
 pub fn prologue(head: &[u8], format: RecordFormat) -> Head
     ensures { λ r. ⌜ r ≡ headOf (prologueOf (ofR2000 format) (now (head .entry))) ⌝ }
 {
-    let Taken::Bits {
-        value: code,
-        next: at,
-    } = take_at(head, 0, 2)
-    else {
+    let Taken::Bits(code, at) = take_at(head, 0, 2) else {
         return Head::Nothing;
     };
     type_at(head, at, format, code)
