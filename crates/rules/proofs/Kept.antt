@@ -58,7 +58,7 @@ module _ (src : List ℕ) (P : (taken : ℕ) → Account → Type 0) (Q : (at ta
     unfolding lastByteOf sectionRecord
     section-turn size = kept .sections (sectionRecord p start size) (start + 37 + size) next (omega arith) c
 
-    data-keeps : (size : ℕ) → P 0 (askSectionData src p start total next size)
+    data-keeps : (size : ℕ) → P 0 (askSectionData src p start next size)
     unfolding askSectionData sectionCrcTurn askSectionEnd
     data-keeps size =
         kept .pays p _ size _ (kept .spans _ 1 (start + 21 + size) size _ (omega arith)
@@ -98,7 +98,7 @@ module _ (src : List ℕ) (P : (taken : ℕ) → Account → Type 0) (Q : (at ta
           in-both (Ends (location + n + size + 1) size) _
           (λ e. named-ends (prologueOf (isR2000 h) (take 16 (part src (location + n) size)))) (λ e. tt)
 
-    verdict-turn : (at size : ℕ) (v : Verdict) → Ends at size v → Q at size (verdictTurn h src handle location next v)
+    verdict-turn : (at size : ℕ) (v : Verdict) → Ends at size v → Q at size (verdictTurn next v)
     unfolding verdictTurn
     verdict-turn at size (holds r) e = rw (← e .1) (kept .objects r at next (e .0) c)
     verdict-turn at size (fails f) e = kept .failing at size f

@@ -25,3 +25,4 @@ pub mod Tidy
 pub mod Payload
 pub mod Taken
 pub mod TakenBound
+pub mod Facts

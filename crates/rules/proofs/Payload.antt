@@ -126,8 +126,11 @@ so-far taken zero a k = omega arith
 so-far taken (suc n) (over q) k = omega arith
 so-far taken (suc n) (ask at left says rest) (each d k) =
     let hand = keptBehind (committedIn says) (taken + payloadByte says) in
-    omega (arith, step (committedIn says) (recordsWithin n rest) (taken + payloadByte says) (payloadWithin n rest) (payloadInHand hand n rest) d
-    (so-far hand n rest k))
+    omega (
+      arith,
+      step (committedIn says) (recordsWithin n rest) (taken + payloadByte says) (payloadWithin n rest) (payloadInHand hand n rest) d
+          (so-far hand n rest k),
+    )
 
 in-all : (taken : ℕ) (a : Account) → Pays taken a → endingOf a ≡ asked.Nothing → taken + payloadTaken a ≡ sizesOf (recordsIn a) + 0
 unfolding endingOf payloadTaken recordsIn sizesOf

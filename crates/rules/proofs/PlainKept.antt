@@ -45,7 +45,7 @@ module _ (h : FlatHeader) (src : List ℕ) (P : (room : ℕ) → Listing → Typ
       keeps-require room _ _ _ λ e. keeps-require room _ _ _ λ e. keeps-require room _ _ _ λ e. keeps-require room _ _ _ λ e. keeps-require room _ _ _ λ e.
       kept .sections room _ l k
 
-  keeps-verdict : (room : ℕ) (v : Verdict) (l : Listing) → P room l → P (2 + room) (verdictThen h src v l)
+  keeps-verdict : (room : ℕ) (v : Verdict) (l : Listing) → P room l → P (2 + room) (verdictThen v l)
   unfolding verdictThen
   keeps-verdict room (holds r) l k = kept .objects room r l k
   keeps-verdict room (fails f) l k = kept .stopped (2 + room) f

@@ -36,7 +36,7 @@ lacking src at t h k = split (ltb at (length src)) refl
         told-over (demand at 2) ∙ ap stop (ap₂ demand l (omega arith))
 
 module _ (h : FlatHeader) (src : List ℕ) (len : length src ≡ h .length) (handle location : ℕ) (next : Account) where
-  verdict-told : (v : Verdict) → toldTurn (verdictTurn h src handle location next v) ≡ verdictThen h src v (told next)
+  verdict-told : (v : Verdict) → toldTurn (verdictTurn next v) ≡ verdictThen v (told next)
   unfolding verdictTurn verdictThen
   verdict-told (holds r) = refl
   verdict-told (fails f) = told-bad f

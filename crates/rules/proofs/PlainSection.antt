@@ -22,7 +22,7 @@ use Rattle.rules.proofs.Told.{turn-if, entered-if, require-if, told-spa
 module _ (src : List ℕ) (p : Part) (is : IsSection p) (start total : ℕ) (next : Account) (inside : start + total ≤ length src) where
   -- behind the size field
   data-told : (size : ℕ) → frame + size ≡ total
-      → told (askSectionData src p start total next size)
+      → told (askSectionData src p start next size)
       ≡ require (eqb (sectionStored src start size) (sectionComputed src start size))
       (fault.SectionCrc (partNumber p) (sectionComputed src start size) (sectionStored src start size))
       (require (same (part src (start + 22 + size) 16) (endSentinel p)) (fault.SectionSentinel (partNumber p))

@@ -31,7 +31,7 @@ use Rattle.rules.proofs.Taken.{Takes, Behind, takes-over, takes-less, b
 -- ---- a section takes no more than its locator's size
 
 module _ (src : List ℕ) (p : Part) (is : IsSection p) (start total m : ℕ) (next : Account) (k : Takes m next) where
-  data-takes : (size : ℕ) → Takes (size + (2 + (16 + m))) (askSectionData src p start total next size)
+  data-takes : (size : ℕ) → Takes (size + (2 + (16 + m))) (askSectionData src p start next size)
   unfolding askSectionData sectionCrcTurn askSectionEnd
   data-takes size =
       takes-span src (2 + (16 + m)) size _ _ _ (behind-go _ _ _ (takes-span src (16 + m) 2 _ _ _
@@ -56,7 +56,7 @@ module _ (src : List ℕ) (p : Part) (is : IsSection p) (start total m : ℕ) (n
 -- ---- an object takes no more than the source's length
 
 module _ (h : FlatHeader) (src : List ℕ) (handle location m : ℕ) (next : Account) (k : Takes m next) where
-  verdict-behind : (v : Verdict) → Behind m (verdictTurn h src handle location next v)
+  verdict-behind : (v : Verdict) → Behind m (verdictTurn next v)
   unfolding verdictTurn
   verdict-behind (holds r) = behind-go m _ next k
   verdict-behind (fails f) = behind-bad m f
@@ -171,6 +171,6 @@ bytes-bound h src =
     let room : mapStart h + mapSize h - mapStart h ≡ mapSize h = omega arith in
     let objects : s .objects ≤ mapSize h / 2 = omega (arith, s .half) in
     let a = section-takes src HeaderVars vars (locatorOf h 0 .offset) (locatorOf h 0 .size) _ _
-            (section-takes src Classes classes (locatorOf h 1 .offset) (locatorOf h 1 .size) _ _ (s .takes)) in
+    (section-takes src Classes classes (locatorOf h 1 .offset) (locatorOf h 1 .size) _ _ (s .takes)) in
     let b : s .objects * h .length ≤ mapSize h / 2 * h .length = mul-le-mul-right (h .length) objects in
     omega (arith, a .count)

@@ -10,6 +10,7 @@ use Rattle.streaming.specs.Choose.{if_then_else_}
 
 -- ---- the bytes of a delta
 
+-- a byte, and the rest of its delta if that is whole
 abbrev pub before : ℕ → Option (List ℕ) → Option (List ℕ)
 before b none = none
 before b (some bs) = some (b ∷ bs)
@@ -71,6 +72,7 @@ pub data Entry : Type 0 where
   leads : (bytes handle location : ℕ) → Entry
   refused : (bytes : ℕ) → Entry
 
+-- refused where it leads to no location
 unfoldable pub entryAt : (bytes handle : ℕ) → Option ℕ → Entry
 entryAt bytes handle none = refused bytes
 entryAt bytes handle (some location) = leads bytes handle location

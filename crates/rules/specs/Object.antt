@@ -23,7 +23,7 @@ use Rattle.rules.specs.Prologue.{Prologue, prologueOf}
 
 -- ---- its size
 
--- words of 15 bits, the low one first; the high bit means that a second one follows, and a third one is refused
+-- words of 15 bits, the low one first; the high bit means that a second one follows, and is refused on the second
 pub data Size : Type 0 where
   sized : (fieldBytes size : ℕ) → Size
   unending : Size
@@ -37,6 +37,7 @@ sizeOfWords first second =
     else if isLast second then sized 4 (first % 0x8000 + 0x8000 * second)
     else unending
 
+-- the second word is looked at only where the first is not the last
 abbrev pub sizeIn : (fourBytes : List ℕ) → Size
 sizeIn bytes = sizeOfWords (littleEndian (take 2 bytes)) (littleEndian (drop 2 bytes))
 
@@ -92,15 +93,16 @@ verdict h src handle location fieldBytes size =
 
 -- ---- what is asked for, and what is said, in the order of the fields
 
-module _ (h : FlatHeader) (src : List ℕ) (handle location : ℕ) (next : Account) where
-  unfoldable pub verdictTurn : Verdict → Turn
-  verdictTurn (holds r) = go (answer.Step (step.Object r)) next
-  verdictTurn (fails f) = bad f
+-- the last byte commits
+unfoldable pub verdictTurn : (next : Account) → Verdict → Turn
+verdictTurn next (holds r) = go (answer.Step (step.Object r)) next
+verdictTurn next (fails f) = bad f
 
+module _ (h : FlatHeader) (src : List ℕ) (handle location : ℕ) (next : Account) where
   unfoldable pub askObjectData : (fieldBytes size : ℕ) → Account
   askObjectData fieldBytes size =
       passing src (location + fieldBytes) size (payload Object)
-      (span src (location + fieldBytes + size) 2 framing (verdictTurn (verdict h src handle location fieldBytes size)))
+      (span src (location + fieldBytes + size) 2 framing (verdictTurn next (verdict h src handle location fieldBytes size)))
 
   unfoldable pub objectSizeTurn : Size → Turn
   objectSizeTurn unending = bad (fault.ObjectSize handle)

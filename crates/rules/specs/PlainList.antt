@@ -55,11 +55,11 @@ sectionThen src p start total rest =
     (require (same (part src (start + 22 + size) 16) (endSentinel p)) (fault.SectionSentinel (partNumber p))
     (first (section (sectionRecord p start size)) rest)))))
 
-module _ (h : FlatHeader) (src : List ℕ) where
-  unfoldable pub verdictThen : Verdict → Listing → Listing
-  verdictThen (holds r) rest = first (object r) rest
-  verdictThen (fails f) rest = stop (broken f)
+unfoldable pub verdictThen : Verdict → Listing → Listing
+verdictThen (holds r) rest = first (object r) rest
+verdictThen (fails f) rest = stop (broken f)
 
+module _ (h : FlatHeader) (src : List ℕ) where
   unfoldable pub sizedThen : (handle location : ℕ) → Size → Listing → Listing
   sizedThen handle location unending rest = stop (broken (fault.ObjectSize handle))
   sizedThen handle location (sized fieldBytes size) rest =

@@ -17,7 +17,7 @@ use Rattle.account.specs.Asking.{Turn, go, bad, span, passing, spell}
 use Rattle.octets.specs.Octets.{littleEndian}
 use Rattle.rules.specs.Bytes.{checksum}
 
--- the four sentinels: by part, the one at the start and the one at the end
+-- the four sentinels: of the header variables, then of the classes, the one at the start and the one at the end
 unfoldable pub sentinels : List (List (List ℕ))
 sentinels =
     ((0xCF ∷ 0x7B ∷ 0x1F ∷ 0x23 ∷ 0xFD ∷ 0xDE ∷ 0x38 ∷ 0xA9 ∷ 0x5F ∷ 0x7C ∷ 0x68 ∷ 0xB8 ∷ 0x4E ∷ 0x6D ∷ 0x33 ∷ 0x5F ∷ []) ∷
@@ -52,9 +52,9 @@ module _ (src : List ℕ) (start : ℕ) where
 unfoldable pub sectionRecord : (p : Part) (start size : ℕ) → SectionRecord
 sectionRecord p start size = record { part = p; «data_offset» = start + 20; size = size }
 
--- ---- what is asked for, and what is said, in the order of the fields; the total is the locator's size
+-- ---- what is asked for, and what is said, in the order of the fields
 
-module _ (src : List ℕ) (p : Part) (start total : ℕ) (next : Account) where
+module _ (src : List ℕ) (p : Part) (start : ℕ) (next : Account) where
   -- the last byte commits
   unfoldable pub askSectionEnd : (size : ℕ) → Account
   askSectionEnd size =
@@ -69,8 +69,10 @@ module _ (src : List ℕ) (p : Part) (start total : ℕ) (next : Account) where
       passing src (start + 20) size (payload p)
       (span src (start + 20 + size) 2 framing (sectionCrcTurn size (sectionComputed src start size) (sectionStored src start size)))
 
+-- the total is the locator's size
+module _ (src : List ℕ) (p : Part) (start total : ℕ) (next : Account) where
   unfoldable pub sectionSizeTurn : (size : ℕ) → Turn
-  sectionSizeTurn size = if eqb (frame + size) total then go framing (askSectionData size) else bad (fault.SectionSize (partNumber p))
+  sectionSizeTurn size = if eqb (frame + size) total then go framing (askSectionData src p start next size) else bad (fault.SectionSize (partNumber p))
 
   unfoldable pub askSection : Account
   askSection =
