@@ -12,15 +12,16 @@ use Rattle.crc.specs.Crc.{crcOf}
 use Rattle.crc.proofs.Laws.{crc-append}
 use Rattle.octets.proofs.Sets.{take-sets}
 use Rattle.streaming.specs.Choose.{if_then_else_}
-use Rattle.streaming.specs.State.{fell}
+use Rattle.streaming.specs.State.{failing, fell}
 use Rattle.streaming.specs.declared.Fault.{Fault}
 use Rattle.streaming.specs.declared.Answer.{Answer}
 use Rattle.streaming.specs.declared.FlatWalker.{FlatWalker}
 use Rattle.streaming.specs.declared.Fed.{Fed}
+use Rattle.account.specs.Account.{Account, over, broken}
 use Rattle.account.specs.Asking.{Turn, bad}
 use Rattle.account.specs.Statement.{part}
 use Rattle.account.proofs.Parts.{length-part, part-add}
-use Rattle.account.proofs.Walks.{Lands, lands-bad}
+use Rattle.account.proofs.Walks.{On, stop, Lands, lands-bad}
 use Rattle.rules.proofs.Choose.{choose-alike}
 use Rattle.stands.proofs.Bare.{outcome, bare, failing-asks}
 
@@ -76,3 +77,14 @@ module _ (src : List ℕ) where
 
   pub land-fell : (s : FlatWalker) (f : Fault) → Land (fell f s) (bad f)
   land-fell s f = lands-bad bare src (failing-asks s f)
+
+  -- ---- states that are entered
+
+  pub on-if : (b : Bool) {x y : FlatWalker} {a u : Account} → (b ≡ true → On bare src x a) → (b ≡ false → On bare src y u)
+      → On bare src (if b then x else y) (if b then a else u)
+  unfolding if_then_else_
+  on-if true h k = h refl
+  on-if false h k = k refl
+
+  pub on-failing : (s : FlatWalker) (f : Fault) → On bare src (failing s f) (over (broken f))
+  on-failing s f = stop (failing-asks s f) tt

@@ -80,7 +80,7 @@ module _ (d z : ℕ) where
 -- ---- each demand
 
 -- the checksum so far, behind d bytes of the start sentinel: its first piece sets it going
-abbrev pub startCrc : ℕ → ℕ → ℕ
+abbrev startCrc : ℕ → ℕ → ℕ
 startCrc c zero = c
 startCrc c (suc d) = seed
 

@@ -1,12 +1,12 @@
 -- The machine goes through a section as the rules say: the start sentinel, the size, the data, the checksum, the end sentinel. (Short names:
 -- SectionDemands.)
-use Prim.Native.Nat.{ℕ, _+_, _≤_, _<_}
+use Prim.Native.Nat.{ℕ, _+_}
 use mathlib.Core.Bool.{Bool, true, false}
 use mathlib.Core.List.{List}
 use mathlib.Core.Path.{_≡_, refl, sym, ap, _∙_}
 use native.Mathlib.Omega.{arith}
 use native.Mathlib.Nat.{add-zero}
-use lib.ListN.{length, take}
+use lib.ListN.{length}
 use lib.Seq.{sets, length-sets, take-all}
 use lib.Dec.{leb, eqb}
 use borrow.Author.Tests.{eqb-true, eqb-false}
@@ -14,25 +14,25 @@ use Rattle.crc.specs.Crc.{crcOf}
 use Rattle.octets.specs.Octets.{littleEndian}
 use Rattle.streaming.specs.Choose.{if_then_else_}
 use Rattle.streaming.specs.Numbers.{partNumber}
-use Rattle.streaming.specs.State.{inUnit, failing}
+use Rattle.streaming.specs.State.{inUnit}
 use Rattle.streaming.specs.declared.Fault.the-variants as fault
 use Rattle.streaming.specs.declared.Stage.{Stage}
 use Rattle.streaming.specs.declared.Failure.the-variants as failure
 use Rattle.streaming.specs.declared.FlatWalker.{FlatWalker}
-use Rattle.account.specs.Account.{Account, over, framing, payload, broken}
+use Rattle.account.specs.Account.{Account, framing, payload}
 use Rattle.account.specs.Asking.{go, span, spell}
 use Rattle.account.specs.Statement.{part}
 use Rattle.account.proofs.Parts.{length-part}
-use Rattle.account.proofs.Walks.{On, stop, Lands, lands-go, phase-on, spelled-on}
+use Rattle.account.proofs.Walks.{On, lands-go, phase-on, spelled-on}
 use Rattle.rules.specs.Bytes.{seed, checksum}
 use Rattle.rules.specs.Header.{locatorOf}
 use Rattle.rules.specs.Section.{frame, startSentinel, endSentinel, sectionSize, sectionComputed, sectionStored}
 use Rattle.rules.specs.Section.{askSectionEnd, sectionCrcTurn, askSectionData, sectionSizeTurn, askSection}
 use Rattle.rules.proofs.Section.{length-start, length-end}
 use Rattle.section.specs.Section.{partOf, enterSection, enterNext, settleSectionSize, settleSectionCrc, settleSection}
-use Rattle.stands.proofs.Bare.{outcome, bare, failing-asks}
-use Rattle.stands.proofs.Landing.{field-at, crc-at, Land, land-if, land-fell}
-use Rattle.stands.proofs.SectionDemands.{InSection, is-section, startCrc, start-spelled, size-phase, data-phase, crc-phase, end-spelled}
+use Rattle.stands.proofs.Bare.{bare}
+use Rattle.stands.proofs.Landing.{field-at, crc-at, Land, land-if, land-fell, on-if, on-failing}
+use Rattle.stands.proofs.SectionDemands.{InSection, is-section, start-spelled, size-phase, data-phase, crc-phase, end-spelled}
 
 module _ (src : List ℕ) (s : FlatWalker) (g : Stage) (isg : InSection g) (sound : s .failure ≡ failure.None) (next : Account)
     (after : (done size crc : ℕ) (field : List ℕ) → length field ≡ 4 → On bare src (enterNext g (inUnit s g done size crc field)) next) where
@@ -70,26 +70,32 @@ module _ (src : List ℕ) (s : FlatWalker) (g : Stage) (isg : InSection g) (soun
   crc-on z c f n ec =
       rw (add-zero (20 + z)) at (phase-on bare src (crc-phase s g isg sound z c f) (omega arith) λ k q.
       let w : List ℕ = part src (start + 20 + z) 2 in
-      crc-lands (20 + z + length q) z c (sets f 0 q) (sets f 0 w) _ (length-sets f 0 w ∙ n) (ap littleEndian (field-at src f (start + 20 + z) 2 k (omega arith))) ec)
+      crc-lands (20 + z + length q) z c (sets f 0 q) (sets f 0 w) _ (length-sets f 0 w ∙ n)
+      (ap littleEndian (field-at src f (start + 20 + z) 2 k (omega arith))) ec)
 
-  data-on : (z : ℕ) (f : List ℕ) → length f ≡ 4 → On bare src (inside 20 z (checksum (part src (start + 16) 4)) f) (askSectionData src (partOf g) start total next z)
+  -- the checksum of the size
+  abbrev sizeCrc : ℕ
+  sizeCrc = checksum (part src (start + 16) 4)
+
+  data-on : (z : ℕ) (f : List ℕ) → length f ≡ 4 → On bare src (inside 20 z sizeCrc f) (askSectionData src (partOf g) start total next z)
   unfolding askSectionData span sectionComputed crcOf
   data-on z f n = split (eqb z 0) refl
     where
       split : (b : Bool) → eqb z 0 ≡ b
-          → On bare src (inside 20 z (checksum (part src (start + 16) 4)) f) (span src (start + 20) z (payload (partOf g)) (go (payload (partOf g)) (askCrc z)))
-      split true t = let o : z ≡ 0 = eqb-true z 0 t in rw o (crc-on 0 (checksum (part src (start + 16) 4)) f n refl)
+          → On bare src (inside 20 z sizeCrc f) (span src (start + 20) z (payload (partOf g)) (go (payload (partOf g)) (askCrc z)))
+      split true t = let o : z ≡ 0 = eqb-true z 0 t in rw o (crc-on 0 sizeCrc f n refl)
       split false t =
-          phase-on bare src {t = go (payload (partOf g)) (askCrc z)} (data-phase s g isg sound z (checksum (part src (start + 16) 4)) f) (omega (arith, eqb-false z 0 t)) λ k q.
+          phase-on bare src {t = go (payload (partOf g)) (askCrc z)} (data-phase s g isg sound z sizeCrc f) (omega (arith, eqb-false z 0 t)) λ k q.
           let e : length (part src (start + 20) z) ≡ z = length-part src (start + 20) z (omega arith) in
           let x : start + 16 + 4 ≡ start + 20 = omega arith in
-          rw e (lands-go bare src (crc-on z (crcOf (checksum (part src (start + 16) 4)) (part src (start + 20) z)) f n (rw x at (crc-at src seed (start + 16) 4 z))))
+          rw e (lands-go bare src (crc-on z (crcOf sizeCrc (part src (start + 20) z)) f n (rw x at (crc-at src seed (start + 16) 4 z))))
 
   size-lands : (d c : ℕ) (f field : List ℕ) (z : ℕ) → length field ≡ 4
-      → Land src (settleSectionSize (inside d 0 c f) (checksum (part src (start + 16) 4)) field z) (sectionSizeTurn src (partOf g) start total next z)
+      → Land src (settleSectionSize (inside d 0 c f) sizeCrc field z) (sectionSizeTurn src (partOf g) start total next z)
   unfolding settleSectionSize sectionSizeTurn
   size-lands d c f field z n =
-      land-if src (eqb (frame + z) total) (λ t. lands-go bare src (data-on z field n)) λ t. land-fell src (inside d 0 c f) (fault.SectionSize (partNumber (partOf g)))
+      land-if src (eqb (frame + z) total) (λ t. lands-go bare src (data-on z field n))
+      λ t. land-fell src (inside d 0 c f) (fault.SectionSize (partNumber (partOf g)))
 
   -- what is asked for behind the start sentinel
   abbrev askSize : Account
@@ -101,7 +107,7 @@ module _ (src : List ℕ) (s : FlatWalker) (g : Stage) (isg : InSection g) (soun
       phase-on bare src {t = sectionSizeTurn src (partOf g) start total next (sectionSize src start)} (size-phase s g isg sound f) (omega arith) λ k q.
       let w : List ℕ = part src (start + 16) 4 in
       let e : sets f 0 (part src (start + 16) 4) ≡ part src (start + 16) 4 =
-          sym (take-all 4 (sets f 0 w) (omega (arith, length-sets f 0 w))) ∙ field-at src f (start + 16) 4 k (omega arith) in
+      sym (take-all 4 (sets f 0 w) (omega (arith, length-sets f 0 w))) ∙ field-at src f (start + 16) 4 k (omega arith) in
       rw e (size-lands (16 + length q) (crcOf seed q) (sets f 0 q) w (littleEndian w) (length-part src (start + 16) 4 (omega arith)))
 
   start-on : (c : ℕ) (f : List ℕ) → length f ≡ 4
@@ -116,12 +122,7 @@ pub section-on : (src : List ℕ) (s : FlatWalker) (g : Stage) → InSection g �
     → ((done size crc : ℕ) (field : List ℕ) → length field ≡ 4 → On bare src (enterNext g (inUnit s g done size crc field)) next)
     → On bare src (enterSection s g)
     (askSection src (partOf g) (locatorOf (s .header) (partNumber (partOf g)) .offset) (locatorOf (s .header) (partNumber (partOf g)) .size) next)
-unfolding enterSection askSection if_then_else_
-section-on src s g isg sound n next after = split (leb frame (locatorOf (s .header) (partNumber (partOf g)) .size))
-  where
-    split : (b : Bool) → On bare src
-        (if b then inUnit s g 0 0 (s .crc) (s .field) else failing (inUnit s g 0 0 (s .crc) (s .field)) (fault.SectionSize (partNumber (partOf g))))
-        (if b then spell src (start src s g isg sound next after) (startSentinel (partOf g)) (fault.SectionSentinel (partNumber (partOf g)))
-        (go framing (askSize src s g isg sound next after)) else over (broken (fault.SectionSize (partNumber (partOf g)))))
-    split true = start-on src s g isg sound next after (s .crc) (s .field) n
-    split false = stop (failing-asks (inUnit s g 0 0 (s .crc) (s .field)) (fault.SectionSize (partNumber (partOf g)))) tt
+unfolding enterSection askSection
+section-on src s g isg sound n next after =
+    on-if src (leb frame (locatorOf (s .header) (partNumber (partOf g)) .size)) (λ t. start-on src s g isg sound next after (s .crc) (s .field) n)
+    λ t. on-failing src (inUnit s g 0 0 (s .crc) (s .field)) (fault.SectionSize (partNumber (partOf g)))
