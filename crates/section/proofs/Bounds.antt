@@ -1,9 +1,10 @@
--- The size of the section in hand is a u32, since the header's locators are.
-use Prim.Native.Nat.{ℕ, zero, suc, _<_, _^_}
+-- What the types of a state's fields say: a partial number has four bytes, and a section's size is a u32.
+use Prim.Native.Nat.{ℕ, zero, suc, _+_, _≤_, _<_, _^_}
 use mathlib.Core.List.{List, [], _∷_, map}
+use mathlib.Core.Path.{_≡_}
 use native.Mathlib.Omega.{arith}
 use borrow.Author.Needs.{needs}
-use lib.ListN.{take}
+use lib.ListN.{length, take}
 use mir.Val.{Val}
 use denote.Shadow.{shadow}
 use denote.Array.{each}
@@ -14,8 +15,14 @@ use Rattle.streaming.proofs.Choose.{in-both}
 use Rattle.streaming.specs.declared.Locator.{Locator}
 use Rattle.streaming.specs.declared.FlatWalker.{FlatWalker}
 use Rattle.rules.specs.Header.{firstOf, locatorOf}
+use Rattle.rules.specs.Section.{frame}
 use Rattle.section.specs.Section.{sectionOf}
+use Rattle.section.specs.Fit.{FitSection}
 
+pub four-in-field : (s : FlatWalker) (vs : List Val) → shadow (row walker.the-type .own s vs) → length (s .field) ≡ 4
+four-in-field s vs g = search needs
+
+-- the header's locators are of u32s
 first-lt : (n k : ℕ) (ls : List Locator) (us : List Val)
     → shadow (each _ (locator.the-field .row .own) (map (locator.the-field .into) ls) us) → firstOf n (take k ls) .size < 2 ^ 32
 unfolding firstOf
@@ -27,3 +34,7 @@ first-lt n (suc k) (l ∷ ls) (u ∷ us) g = in-both (λ (x : Locator). x .size 
 pub size-lt : (s : FlatWalker) (vs : List Val) → shadow (row walker.the-type .own s vs) → sectionOf s .size < 2 ^ 32
 unfolding locatorOf
 size-lt s vs g = first-lt _ (s .header .count) (s .header .locators) _ (g .1 .1 .0 .1 .1 .1 .1 .0 .1 .1)
+
+-- so once the size is known, the section's end is one too
+pub late-lt : (s : FlatWalker) (vs : List Val) → shadow (row walker.the-type .own s vs) → FitSection s → 20 ≤ s .done → frame + s .size < 2 ^ 32
+late-lt s vs g f h = omega (arith, size-lt s vs g, f .late h)
