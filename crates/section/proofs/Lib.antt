@@ -1,3 +1,4 @@
-pub mod Demand
 pub mod Bounds
+pub mod Demand
 pub mod Fields
+pub mod Fitness

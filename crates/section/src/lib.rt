@@ -1,67 +1,37 @@
-// Stages Vars and Classes: the section in hand, what is asked for in it, and what a piece of it does.
+// Stages Vars and Classes: what is asked for in a section, what a piece of it does, and which states a walk can reach.
 ghost use mathlib.Core.Path.{_≡_};
-ghost use Prim.Native.Nat.{_+_, _-_, _<_, _≤_};
+ghost use mathlib.Core.Bool.{true};
+ghost use Prim.Native.Nat.{_≤_};
 ghost use lib.ListN.{length};
-ghost use Rattle.streaming.specs.Numbers.{partNumber};
-ghost use Rattle.streaming.specs.State.{fell as State·fell};
-ghost use Rattle.section.specs.Section.{partOf, sectionOf, sectionEnd, requestSection, enterSection};
-ghost use Rattle.section.specs.Section.{settleSectionSize, settleSectionCrc, settleSection};
-ghost use Rattle.section.specs.Section.{feedSectionStart, feedSectionSize, feedSectionData, feedSectionCrc, feedSectionEnd, feedSection};
-ghost use Rattle.section.specs.Fit.{FitSection};
-use crc::crc8;
+ghost use Rattle.section.specs.Section.{sectionEnd, requestSection, enterSection, feedSection};
+ghost use Rattle.section.specs.Fit.{sectionDone, fitSection, FitSection};
+use chunk::no_entry;
+use chunk::no_object;
+use hand::part_number;
+use hand::section;
 use header::locator;
-use octets::copy_in;
-use octets::le16;
-use octets::le32;
-use streaming::Answer;
+use pieces::feed_section_crc;
+use pieces::feed_section_data;
+use pieces::feed_section_end;
+use pieces::feed_section_size;
+use pieces::feed_section_start;
 use streaming::Failure;
 use streaming::Fault;
 use streaming::Fed;
 use streaming::FlatWalker;
-use streaming::Locator;
-use streaming::Part;
 use streaming::Request;
 use streaming::Stage;
-use streaming::Step;
-use streaming::StreamError;
 
+mod hand;
+mod pieces;
 mod sentinels;
+mod settle;
 
-// The part of a stage; only the first two stages are sections.
-fn part_of(g: Stage) -> Part
-    ensures { λ r. ⌜ r ≡ partOf g ⌝ }
-{
-    match g {
-        Stage::Vars => Part::HeaderVars,
-        Stage::Classes => Part::Classes,
-        Stage::Chunk => Part::Classes,
-        Stage::Entry => Part::Classes,
-        Stage::Object => Part::Classes,
-        Stage::Done => Part::Classes,
-    }
-}
+// The sentinels, the size and the checksum.
+const FRAME: u64 = 38;
 
-// Its number.
-fn part_number(g: Stage) -> u8
-    ensures { λ r. ⌜ (r ≡ partNumber (partOf g)) × (r < 2) ⌝ }
-{
-    match g {
-        Stage::Vars => 0,
-        Stage::Classes => 1,
-        Stage::Chunk => 1,
-        Stage::Entry => 1,
-        Stage::Object => 1,
-        Stage::Done => 1,
-    }
-}
-
-// The locator of the section in hand.
-fn section(s: FlatWalker) -> Locator
-    ensures { λ r. ⌜ r ≡ sectionOf s ⌝ }
-{
-    let g = s.stage;
-    locator(s.header, part_number(g))
-}
+// Every checksum of a drawing starts from this seed.
+const SEED: u16 = 0xC0C1;
 
 // Where the demand ends: the sentinel, the size, the data, the checksum, the sentinel.
 fn section_end(done: u32, size: u32) -> u64
@@ -81,7 +51,7 @@ fn section_end(done: u32, size: u32) -> u64
     if d < 22 + n {
         return 22 + n;
     }
-    38 + n
+    FRAME + n
 }
 
 // What is asked for in a section.
@@ -110,7 +80,7 @@ pub fn enter_section(s: FlatWalker, g: Stage) -> FlatWalker
         size: 0,
         ..s
     };
-    if 38 <= l.size {
+    if FRAME <= l.size as u64 {
         return t;
     }
     FlatWalker {
@@ -119,145 +89,46 @@ pub fn enter_section(s: FlatWalker, g: Stage) -> FlatWalker
     }
 }
 
-// A fault is answered and held.
-fn fell(f: Fault, s: FlatWalker) -> Fed
-    ensures { λ r. ⌜ r ≡ State·fell f s ⌝ }
+// A piece of the field that is asked for.
+pub fn feed_section(s: FlatWalker, piece: &[u8]) -> Fed
+    requires { ⌜ FitSection s ⌝ }
+    requires { ⌜ length (now piece) ≤ requestSection s .len ⌝ }
+    ensures { λ r. ⌜ r ≡ feedSection s (now (piece .entry)) ⌝ }
 {
-    Fed {
-        answer: Answer::Refused(StreamError::Fault(f)),
-        state: FlatWalker {
-            failure: Failure::Held(f),
-            ..s
-        },
+    let d = s.done as u64;
+    let n = s.size as u64;
+    if d < 16 {
+        return feed_section_start(s, piece);
     }
+    if d < 20 {
+        return feed_section_size(s, piece);
+    }
+    if d < 20 + n {
+        return feed_section_data(s, piece);
+    }
+    if d < 22 + n {
+        return feed_section_crc(s, piece);
+    }
+    feed_section_end(s, piece)
 }
 
-// The size is whole: with the frame it has to be the locator's.
-fn settle_section_size(s: FlatWalker, crc: u16, field: [u8; 4], size: u32) -> Fed
-    ensures { λ r. ⌜ r ≡ settleSectionSize s crc field size ⌝ }
+// How far the section is: its size, once it is known, is the locator's.
+fn section_done(total: u32, done: u32, size: u32) -> bool
+    ensures { λ r. ⌜ r ≡ sectionDone total done size ⌝ }
 {
-    let g = s.stage;
+    if done < 20 {
+        return size == 0;
+    }
+    FRAME + size as u64 == total as u64
+}
+
+// Whether a walk can reach the state, in these stages.
+pub fn fit_section(s: FlatWalker) -> bool
+    ensures { λ r. ⌜ (r ≡ fitSection s) × (r ≡ true → FitSection s) ⌝ }
+{
+    let m = s.map;
     let l = section(s);
-    if 38 + size as u64 == l.size as u64 {
-        return Fed {
-            answer: Answer::Step(Step::Framing),
-            state: FlatWalker {
-                done: 20,
-                size: size,
-                crc: crc,
-                field: field,
-                ..s
-            },
-        };
-    }
-    fell(Fault::SectionSize(part_number(g)), s)
-}
-
-// The checksum is whole.
-fn settle_section_crc(s: FlatWalker, field: [u8; 4], stored: u16) -> Fed
-    requires { ⌜ FitSection s × (20 ≤ s .done) ⌝ }
-    ensures { λ r. ⌜ r ≡ settleSectionCrc s field stored ⌝ }
-{
-    let g = s.stage;
-    if stored == s.crc {
-        return Fed {
-            answer: Answer::Step(Step::Framing),
-            state: FlatWalker {
-                done: 22 + s.size,
-                field: field,
-                ..s
-            },
-        };
-    }
-    fell(
-        Fault::SectionCrc {
-            part: part_number(g),
-            expected: s.crc,
-            actual: stored,
-        },
-        s,
-    )
-}
-
-// A piece of the start sentinel, which is compared piece by piece.
-fn feed_section_start(s: FlatWalker, piece: &[u8]) -> Fed
-    requires { ⌜ s .done + length (now piece) ≤ 16 ⌝ }
-    ensures { λ r. ⌜ r ≡ feedSectionStart s (now (piece .entry)) ⌝ }
-{
-    let g = s.stage;
-    let number = part_number(g);
-    if sentinels::spells(number as usize, 0, s.done as usize, piece) {
-        return Fed {
-            answer: Answer::Step(Step::Framing),
-            state: FlatWalker {
-                done: s.done + piece.len() as u32,
-                crc: 0xC0C1,
-                ..s
-            },
-        };
-    }
-    fell(Fault::SectionSentinel(number), s)
-}
-
-// A piece of the size. The checksum is over size and data.
-fn feed_section_size(s: FlatWalker, piece: &[u8]) -> Fed
-    requires { ⌜ (16 ≤ s .done) × (s .done + length (now piece) ≤ 20) ⌝ }
-    ensures { λ r. ⌜ r ≡ feedSectionSize s (now (piece .entry)) ⌝ }
-{
-    let crc = crc8(s.crc, piece);
-    let mut field = s.field;
-    copy_in(&mut field, (s.done - 16) as usize, piece);
-    let done = s.done + piece.len() as u32;
-    if done == 20 {
-        let size = le32(field[0], field[1], field[2], field[3]);
-        return settle_section_size(s, crc, field, size);
-    }
-    Fed {
-        answer: Answer::Step(Step::Framing),
-        state: FlatWalker {
-            done: done,
-            crc: crc,
-            field: field,
-            ..s
-        },
-    }
-}
-
-// A piece of the data, which is payload.
-fn feed_section_data(s: FlatWalker, piece: &[u8]) -> Fed
-    requires { ⌜ FitSection s ⌝ }
-    requires { ⌜ (20 ≤ s .done) × (s .done + length (now piece) ≤ 20 + s .size) ⌝ }
-    ensures { λ r. ⌜ r ≡ feedSectionData s (now (piece .entry)) ⌝ }
-{
-    let g = s.stage;
-    Fed {
-        answer: Answer::Step(Step::Payload(part_of(g))),
-        state: FlatWalker {
-            done: s.done + piece.len() as u32,
-            crc: crc8(s.crc, piece),
-            ..s
-        },
-    }
-}
-
-// A piece of the checksum.
-fn feed_section_crc(s: FlatWalker, piece: &[u8]) -> Fed
-    requires { ⌜ FitSection s ⌝ }
-    requires { ⌜ (20 + s .size ≤ s .done) × (s .done + length (now piece) ≤ 22 + s .size) ⌝ }
-    ensures { λ r. ⌜ r ≡ feedSectionCrc s (now (piece .entry)) ⌝ }
-{
-    let mut field = s.field;
-    copy_in(&mut field, (s.done - (20 + s.size)) as usize, piece);
-    let done = s.done + piece.len() as u32;
-    if done == 22 + s.size {
-        return settle_section_crc(s, field, le16(field[0], field[1]));
-    }
-    Fed {
-        answer: Answer::Step(Step::Framing),
-        state: FlatWalker {
-            done: done,
-            field: field,
-            ..s
-        },
-    }
+    let fresh = no_object(s) & (no_entry(m) & (m.chunk == 0));
+    let done = section_done(l.size, s.done, s.size);
+    fresh & ((FRAME <= l.size as u64) & (s.done < l.size)) & done
 }

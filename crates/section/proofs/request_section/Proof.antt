@@ -1,7 +1,6 @@
 -- `request_section` meets its contract.
 use Rattle.section.specs.Section.{requestSection}
 use native.Mathlib.Omega.{arith}
-use Rattle.section.proofs.Bounds.{size-lt}
 use Rattle.section.proofs.Demand.{end-behind}
 use Prim.Native.Nat.{ℕ}
 use borrow.Author.Needs.{needs}

@@ -10,8 +10,8 @@ use lib.ListN.{length}
 use mathlib.Core.Path.{_≡_}
 use Prim.Native.Nat.{ℕ}
 use borrow.Author.Needs.{needs}
-use Rattle.section.proofs.feed_section_crc.Statement.{statement}
-use Rattle.section.proofs.feed_section_crc.Tie as tie
+use Rattle.section.proofs.pieces.feed_section_crc.Statement.{statement}
+use Rattle.section.proofs.pieces.feed_section_crc.Tie as tie
 
 slice-aggregate-copy-in : tie.Need-slice-aggregate-copy-in
 slice-aggregate-copy-in c = search needs

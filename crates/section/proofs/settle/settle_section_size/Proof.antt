@@ -4,8 +4,8 @@ use Rattle.section.specs.Section.{settleSectionSize}
 use Rattle.streaming.proofs.Cases.{cases}
 use Rattle.streaming.specs.Choose.{if_then_else_}
 use borrow.Author.Needs.{needs}
-use Rattle.section.proofs.settle_section_size.Statement.{statement}
-use Rattle.section.proofs.settle_section_size.Tie as tie
+use Rattle.section.proofs.settle.settle_section_size.Statement.{statement}
+use Rattle.section.proofs.settle.settle_section_size.Tie as tie
 
 section-requires : tie.Need-section-requires
 section-requires c κs = search needs

@@ -9,8 +9,8 @@ use lib.ListN.{length}
 use mathlib.Core.Path.{_≡_}
 use Prim.Native.Nat.{ℕ}
 use borrow.Author.Needs.{needs}
-use Rattle.section.proofs.feed_section_size.Statement.{statement}
-use Rattle.section.proofs.feed_section_size.Tie as tie
+use Rattle.section.proofs.pieces.feed_section_size.Statement.{statement}
+use Rattle.section.proofs.pieces.feed_section_size.Tie as tie
 
 crc8-requires : tie.Need-crc8-requires
 crc8-requires c κs = search needs

@@ -3,8 +3,8 @@ use Rattle.section.specs.Section.{feedSectionData}
 use Rattle.section.proofs.Bounds.{late-lt}
 use native.Mathlib.Omega.{arith}
 use borrow.Author.Needs.{needs}
-use Rattle.section.proofs.feed_section_data.Statement.{statement}
-use Rattle.section.proofs.feed_section_data.Tie as tie
+use Rattle.section.proofs.pieces.feed_section_data.Statement.{statement}
+use Rattle.section.proofs.pieces.feed_section_data.Tie as tie
 
 part-of-requires : tie.Need-part-of-requires
 part-of-requires c κs = search needs

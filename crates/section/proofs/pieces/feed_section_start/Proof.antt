@@ -2,8 +2,8 @@
 use Rattle.section.specs.Section.{feedSectionStart}
 use Rattle.streaming.specs.Choose.{if_then_else_}
 use borrow.Author.Needs.{needs}
-use Rattle.section.proofs.feed_section_start.Statement.{statement}
-use Rattle.section.proofs.feed_section_start.Tie as tie
+use Rattle.section.proofs.pieces.feed_section_start.Statement.{statement}
+use Rattle.section.proofs.pieces.feed_section_start.Tie as tie
 
 part-number-requires : tie.Need-part-number-requires
 part-number-requires c κs = search needs

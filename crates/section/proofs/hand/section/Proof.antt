@@ -1,7 +1,7 @@
 -- `section` meets its contract.
 use borrow.Author.Needs.{needs}
-use Rattle.section.proofs.section.Statement.{statement}
-use Rattle.section.proofs.section.Tie as tie
+use Rattle.section.proofs.hand.section.Statement.{statement}
+use Rattle.section.proofs.hand.section.Tie as tie
 
 part-number-requires : tie.Need-part-number-requires
 part-number-requires c κs = search needs

@@ -6,8 +6,8 @@ use Rattle.section.proofs.Bounds.{late-lt}
 use borrow.Author.Tests.{ne-eqb}
 use native.Mathlib.Omega.{arith}
 use borrow.Author.Needs.{needs}
-use Rattle.section.proofs.settle_section_crc.Statement.{statement}
-use Rattle.section.proofs.settle_section_crc.Tie as tie
+use Rattle.section.proofs.settle.settle_section_crc.Statement.{statement}
+use Rattle.section.proofs.settle.settle_section_crc.Tie as tie
 
 add-t8 : tie.Need-add-t8
 add-t8 c =
