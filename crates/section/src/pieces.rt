@@ -2,6 +2,7 @@
 ghost use mathlib.Core.Path.{_≡_};
 ghost use Prim.Native.Nat.{_+_, _≤_};
 ghost use lib.ListN.{length};
+ghost use Rattle.rules.specs.Section.{frame};
 ghost use Rattle.section.specs.Section.{feedSectionStart, feedSectionSize, feedSectionData, feedSectionCrc, feedSectionEnd};
 ghost use Rattle.section.specs.Fit.{FitSection};
 use crate::FRAME;
@@ -109,7 +110,7 @@ pub fn feed_section_crc(s: FlatWalker, piece: &[u8]) -> Fed
 // A piece of the end sentinel, whose last byte commits the section.
 pub fn feed_section_end(s: FlatWalker, piece: &[u8]) -> Fed
     requires { ⌜ FitSection s ⌝ }
-    requires { ⌜ (22 + s .size ≤ s .done) × (s .done + length (now piece) ≤ 38 + s .size) ⌝ }
+    requires { ⌜ (22 + s .size ≤ s .done) × (s .done + length (now piece) ≤ frame + s .size) ⌝ }
     ensures { λ r. ⌜ r ≡ feedSectionEnd s (now (piece .entry)) ⌝ }
 {
     let g = s.stage;
@@ -124,9 +125,6 @@ pub fn feed_section_end(s: FlatWalker, piece: &[u8]) -> Fed
     }
     Fed {
         answer: Answer::Step(Step::Framing),
-        state: FlatWalker {
-            done: done,
-            ..s
-        },
+        state: FlatWalker { done: done, ..s },
     }
 }

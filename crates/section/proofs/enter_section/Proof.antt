@@ -17,11 +17,15 @@ cast-if1 c = search needs
 
 returns : tie.Need-returns
 unfolding enterSection if_then_else_
-returns c = rw (← c .before .before .before .before .before .before .before .part-number .ensures .0, ← c .before .before .before .before .before .before .locator .ensures) (search cases)
+returns c =
+    let k = c .before .before .before .before .before .before in
+    rw (← k .before .part-number .ensures .0, ← k .locator .ensures) (search cases)
 
 returns-2 : tie.Need-returns-2
 unfolding enterSection if_then_else_
-returns-2 c = rw (← c .before .before .before .before .before .before .before .before .before .before .before .part-number .ensures .0, ← c .before .before .before .before .before .before .before .before .before .before .locator .ensures) (search cases)
+returns-2 c =
+    let k = c .before .before .before .before .before .before .before .before .before .before in
+    rw (← k .before .part-number .ensures .0, ← k .locator .ensures) (search cases)
 
 pub enter-section-spec : {M : Type 1} → statement M
 enter-section-spec =

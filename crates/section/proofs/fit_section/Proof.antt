@@ -24,8 +24,14 @@ cast-result c = search needs
 returns : tie.Need-returns
 unfolding fitSection
 returns c =
+    let k = c .before .before .before in
     telling _ _
-    (rw (← c .before .before .before .before .before .before .before .section .ensures, ← c .before .before .before .before .before .before .no-object .ensures, ← c .before .before .before .before .before .no-entry .ensures, ← c .before .before .before .section-done .ensures))
+    (rw (
+      ← k .before .before .before .before .section .ensures,
+      ← k .before .before .before .no-object .ensures,
+      ← k .before .before .no-entry .ensures,
+      ← k .section-done .ensures,
+    ))
     (fit-section-shows (c .before .before .before .before .before .before .before .before .before .args .s))
 
 pub fit-section-spec : {M : Type 1} → statement M

@@ -2,7 +2,6 @@
 use Rattle.section.specs.Section.{requestSection}
 use native.Mathlib.Omega.{arith}
 use Rattle.section.proofs.Demand.{end-behind}
-use Prim.Native.Nat.{ℕ}
 use borrow.Author.Needs.{needs}
 use Rattle.section.proofs.request_section.Statement.{statement}
 use Rattle.section.proofs.request_section.Tie as tie

@@ -8,7 +8,6 @@ use borrow.Author.Tests.{eq-eqb, ne-eqb}
 use native.Mathlib.Omega.{arith}
 use lib.ListN.{length}
 use mathlib.Core.Path.{_≡_}
-use Prim.Native.Nat.{ℕ}
 use borrow.Author.Needs.{needs}
 use Rattle.section.proofs.pieces.feed_section_crc.Statement.{statement}
 use Rattle.section.proofs.pieces.feed_section_crc.Tie as tie

@@ -35,7 +35,10 @@ fell-requires c κs = search needs
 
 returns : tie.Need-returns
 unfolding feedSectionEnd if_then_else_
-returns c = rw (← c .before .before .before .before .before .part-number .ensures .0, ← c .before .before .spells .ensures, not-true (c .before .before .spells .result) (c .before .if1 .taken)) (c .fell .ensures)
+returns c =
+    let k = c .before in
+    rw (← k .before .before .before .before .part-number .ensures .0, ← k .before .spells .ensures, not-true (k .before .spells .result) (k .if1 .taken))
+    (c .fell .ensures)
 
 cast-done : tie.Need-cast-done
 cast-done c = search needs

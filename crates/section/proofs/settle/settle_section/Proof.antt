@@ -22,7 +22,7 @@ enter-next-requires c κs = search needs
 
 returns : tie.Need-returns
 unfolding settleSection sectionRecord
-returns c = rw (← c .before .before .before .section .ensures, ← c .before .before .part-of .ensures, ← c .enter-next .ensures)
+returns c = cc
 
 pub settle-section-spec : {M : Type 1} → statement M
 settle-section-spec =

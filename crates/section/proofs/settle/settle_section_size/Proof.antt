@@ -1,5 +1,5 @@
 -- `settle_section_size` meets its contract.
-use borrow.Author.Tests.{eq-eqb, ne-eqb}
+use borrow.Author.Tests.{ne-eqb}
 use Rattle.section.specs.Section.{settleSectionSize}
 use Rattle.streaming.proofs.Cases.{cases}
 use Rattle.streaming.specs.Choose.{if_then_else_}
@@ -28,7 +28,9 @@ fell-requires c κs = search needs
 
 returns-2 : tie.Need-returns-2
 unfolding settleSectionSize if_then_else_
-returns-2 c = rw (← c .before .before .before .before .section .ensures, ne-eqb _ _ (c .before .before .if1 .left), ← c .before .part-number .ensures .0) (c .fell .ensures)
+returns-2 c =
+    let k = c .before .before in
+    rw (← k .before .before .section .ensures, ne-eqb _ _ (k .if1 .left), ← c .before .part-number .ensures .0) (c .fell .ensures)
 
 pub settle-section-size-spec : {M : Type 1} → statement M
 settle-section-size-spec =
