@@ -1,9 +1,11 @@
 // Stage Object: an object of the drawing is entered, asked for and fed: its size words, its data and its checksum.
 ghost use mathlib.Core.Path.{_≡_};
-ghost use Prim.Native.Nat.{_<_, _^_};
+ghost use Prim.Native.Nat.{_+_, _-_, _%_, _<_, _≤_, _^_};
+ghost use lib.ListN.{length, take};
+ghost use lib.Seq.{sets};
 ghost use Rattle.streaming.specs.State.{fell as State·fell};
 ghost use Rattle.rules.specs.Object.{mayStart};
-ghost use Rattle.object.specs.Object.{enterObject, objectEnd, requestObject};
+ghost use Rattle.object.specs.Object.{enterObject, objectEnd, requestObject, feedWord, feedObjectData};
 ghost use Rattle.object.specs.Fit.{FitObject};
 use header::header_end;
 use header::map_end;
@@ -14,6 +16,7 @@ use streaming::Fault;
 use streaming::Fed;
 use streaming::FlatHeader;
 use streaming::FlatWalker;
+use streaming::Part;
 use streaming::Request;
 use streaming::Stage;
 use streaming::Step;
@@ -99,5 +102,64 @@ pub fn request_object(s: FlatWalker) -> Request
     Request {
         offset: s.object + d,
         len: end - d,
+    }
+}
+
+// A piece of a size word.
+fn feed_word(s: FlatWalker, piece: &[u8]) -> Fed
+    requires { ⌜ FitObject s × (s .«ms_len» ≡ 0) × (s .done % 2 + length (now piece) ≤ 2) ⌝ }
+    ensures { λ r. ⌜ r ≡ feedWord s (now (piece .entry)) ⌝ }
+{
+    let crc = crc::crc8(s.crc, piece);
+    let mut field = s.field;
+    octets::copy_in(&mut field, (s.done % 2) as usize, piece);
+    let done = s.done + piece.len() as u32;
+    if done % 2 == 0 {
+        return words::settle_word(s, done, crc, field, words::word_in(field));
+    }
+    Fed {
+        answer: Answer::Step(Step::Framing),
+        state: FlatWalker {
+            done: done,
+            crc: crc,
+            field: field,
+            ..s
+        },
+    }
+}
+
+// The first 16 bytes of the data, with those that a piece at a place in it has.
+fn kept(head: [u8; 16], at: usize, piece: &[u8]) -> [u8; 16]
+    ensures { λ r. ⌜ r ≡ sets head at (take (16 - at) (now (piece .entry))) ⌝ }
+{
+    let mut h = head;
+    if at < 16 {
+        let room = 16 - at;
+        if piece.len() < room {
+            octets::copy_in(&mut h, at, piece);
+            return h;
+        }
+        octets::copy_in(&mut h, at, &piece[..room]);
+    }
+    h
+}
+
+// A piece of the data.
+fn feed_object_data(s: FlatWalker, piece: &[u8]) -> Fed
+    requires { ⌜ FitObject s × (s .«ms_len» ≤ s .done) × (s .done + length (now piece) ≤ s .«ms_len» + s .size) ⌝ }
+    ensures { λ r. ⌜ r ≡ feedObjectData s (now (piece .entry)) ⌝ }
+{
+    let crc = crc::crc8(s.crc, piece);
+    let at = s.done - s.ms_len as u32;
+    let head = s.head;
+    let head = kept(head, at as usize, piece);
+    Fed {
+        answer: Answer::Step(Step::Payload(Part::Object)),
+        state: FlatWalker {
+            done: s.done + piece.len() as u32,
+            crc: crc,
+            head: head,
+            ..s
+        },
     }
 }

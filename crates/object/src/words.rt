@@ -2,6 +2,8 @@
 ghost use mathlib.Core.Path.{_≡_};
 ghost use Prim.Native.Nat.{_*_, _%_, _<_, _≤_, _^_};
 ghost use lib.Bits.{bitOr};
+ghost use lib.ListN.{take};
+ghost use Rattle.octets.specs.Octets.{littleEndian};
 ghost use Rattle.rules.specs.Object.{mayEnd};
 ghost use Rattle.object.specs.Object.{settleObjectSize, settleWord};
 ghost use Rattle.object.specs.Fit.{FitObject};
@@ -55,6 +57,13 @@ fn settle_object_size(s: FlatWalker, done: u32, size: u32, crc: u16, field: [u8;
             offset: s.object,
         },
     )
+}
+
+// The number in the first two bytes of a field.
+pub fn word_in(field: [u8; 4]) -> u16
+    ensures { λ r. ⌜ r ≡ littleEndian (take 2 field) ⌝ }
+{
+    octets::le16(field[0], field[1])
 }
 
 // The size with a word's 15 bits.
