@@ -22,6 +22,7 @@ use streaming::Stage;
 use streaming::Step;
 use streaming::StreamError;
 
+pub mod fit;
 mod words;
 
 // A fault is answered and held.
