@@ -23,17 +23,17 @@ noEntry m =
     (eqb (m .len) 0 && eqb (m .at) 0 && eqb (m .handle) 0 && eqb (m .loc) 0)
     && (eqb (m .mc) 0 && eqb (m .shift) 0 && eqb (m .field) 0)
 
--- how far the chunk is: its size, once it is known, fits the map
-unfoldable pub chunkDone : FlatHeader → (chunk done size : ℕ) → Bool
-chunkDone h chunk done size =
+-- how far the chunk is: its size, once it is known, fits the map, which ends there
+unfoldable pub chunkDone : (end chunk done size : ℕ) → Bool
+chunkDone end chunk done size =
     if ltb done 2 then eqb size 0
-    else (leb 2 size && leb size 2034) && (leb (chunk + size + 2) (mapEnd h) && ltb done (size + 2))
+    else (leb 2 size && leb size 2034) && (leb (chunk + size + 2) end && ltb done (size + 2))
 
 unfoldable pub fitChunk : FlatWalker → Bool
 fitChunk s =
     (noObject s && noEntry (s .map))
     && (leb (mapStart (s .header)) (s .map .chunk) && leb (s .map .chunk + 4) (mapEnd (s .header)))
-    && chunkDone (s .header) (s .map .chunk) (s .done) (s .size)
+    && chunkDone (mapEnd (s .header)) (s .map .chunk) (s .done) (s .size)
 
 -- a chunk whose entries are walked lies in the map
 unfoldable pub inChunk : FlatHeader → MapCursor → Bool
@@ -47,8 +47,8 @@ pub record FitChunk (s : FlatWalker) : Type 0 where
   pub early : s .done < 2 → s .size ≡ 0
   pub least : 2 ≤ s .done → 2 ≤ s .size
   pub most : s .size ≤ 2034
-  pub inside : 2 ≤ s .done → s .map .chunk + s .size + 2 ≤ mapEnd (s .header)
-  pub within : 2 ≤ s .done → s .done < s .size + 2
+  pub inside : s .map .chunk + s .size + 2 ≤ mapEnd (s .header)
+  pub within : s .done < s .size + 2
 
 pub record InChunk (h : FlatHeader) (m : MapCursor) : Type 0 where
   pub least : 3 ≤ m .len

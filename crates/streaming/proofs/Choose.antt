@@ -1,6 +1,6 @@
 -- Laws of a choice by a test, and of tests.
 use mathlib.Core.Bool.{Bool, true, false, _&&_, _||_}
-use mathlib.Core.Path.{_≡_, refl}
+use mathlib.Core.Path.{_≡_, refl, sym, _∙_}
 use Rattle.streaming.specs.Choose.{if_then_else_}
 
 -- what holds of both outcomes, each under its test, holds of the choice
@@ -22,3 +22,7 @@ pub or-right : (a b : Bool) → (a || b) ≡ false → b ≡ false
 or-right true true e = e
 or-right true false e = refl
 or-right false b e = e
+
+-- a result that equals a test, and what it shows where the test does
+pub telling : {P : Type 0} (r t : Bool) → r ≡ t → (t ≡ true → P) → (r ≡ t) × (r ≡ true → P)
+telling r t e shows = (e, λ h. shows (sym e ∙ h))
