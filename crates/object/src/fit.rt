@@ -1,8 +1,9 @@
-// Whether a state in stage Object is one that a walk can reach. Every state may be asked about: tests come before sums.
+// Whether a state in stage Object is one that a walk can reach. Any state may be asked about: tests come before sums.
 ghost use mathlib.Core.Path.{_≡_};
 ghost use mathlib.Core.Bool.{true};
 ghost use Prim.Native.Nat.{_<_, _≤_, _^_};
-ghost use Rattle.object.specs.Fit.{behindEntry, objectDone, sizeInWords};
+ghost use Rattle.chunk.specs.Fit.{InChunk};
+ghost use Rattle.object.specs.Fit.{behindEntry, objectDone, objectConsistent, sizeInWords, fitObject, FitObject};
 use crate::may_start;
 use crate::words::may_end;
 use streaming::FlatWalker;
@@ -10,20 +11,19 @@ use streaming::FlatWalker;
 // The farthest location.
 const FARTHEST: u64 = i64::MAX as u64;
 
-// An entry of the chunk is whole, and led here.
+// Whether an entry of the chunk is whole, and led here.
 fn behind_entry(s: FlatWalker) -> bool
+    requires { ⌜ InChunk (s .header) (s .map) ⌝ }
     ensures { λ r. ⌜ (r ≡ behindEntry s) × (r ≡ true → s .object < 2 ^ 63) ⌝ }
 {
     let h = s.header;
     let m = s.map;
-    if m.at <= m.chunk {
-        return false;
-    }
+    let first = m.chunk + 2;
+    let end = m.chunk + m.len as u64;
     if FARTHEST < s.object {
         return false;
     }
-    let past = m.at - m.chunk;
-    ((2 < past) & (past <= m.len as u64))
+    ((first < m.at) & (m.at <= end))
         & ((m.field == 0) & (m.shift == 0) & (m.mc == 0))
         & ((s.object == m.loc) & may_start(h, s.object))
 }
@@ -39,16 +39,40 @@ fn object_done(s: FlatWalker) -> bool
     if s.ms_len == 0 {
         return (s.words <= 1) & ((two <= done) & (done < two + 2));
     }
-    let words = s.ms_len as u64;
-    let end = words + s.size as u64 + 2;
-    ((1 <= s.words) & (s.words <= 2) & (words == two) & (0 < s.size))
-        & (may_end(h, s.object, s.object + end) & (words <= done) & (done < end))
+    let len = s.ms_len as u64;
+    let size = s.size as u64;
+    ((1 <= s.words) & (s.words <= 2) & (len == two) & (0 < size))
+        & (may_end(h, s.object, s.object + len + size + 2) & (len <= done) & (done < len + size + 2))
 }
 
-// The size is one that so many words can hold.
+// The Rust's own test of a saved state.
+pub fn object_consistent(s: FlatWalker) -> bool
+    ensures { λ r. ⌜ r ≡ objectConsistent s ⌝ }
+{
+    let h = s.header;
+    let m = s.map;
+    if chunk::in_chunk(h, m) {
+        if behind_entry(s) {
+            return object_done(s);
+        }
+    }
+    false
+}
+
+// Whether the size is one that so many words can hold.
 fn size_in_words(s: FlatWalker) -> bool
     requires { ⌜ s .words ≤ 2 ⌝ }
     ensures { λ r. ⌜ r ≡ sizeInWords s ⌝ }
 {
     s.size < 1 << (15 * s.words)
+}
+
+// Whether a walk can reach the state, in this stage.
+pub fn fit_object(s: FlatWalker) -> bool
+    ensures { λ r. ⌜ (r ≡ fitObject s) × (r ≡ true → FitObject s) ⌝ }
+{
+    if object_consistent(s) {
+        return size_in_words(s);
+    }
+    false
 }
