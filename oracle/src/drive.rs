@@ -30,7 +30,9 @@ impl Case {
     pub fn parse(input: &[u8]) -> Option<Case> {
         let mut reader = Reader::new(input)?;
         let count = reader.u32().filter(|&n| n <= 6)?;
-        let locators = (0..count).map(|_| read_locator(&mut reader)).collect::<Option<_>>()?;
+        let locators = (0..count)
+            .map(|_| read_locator(&mut reader))
+            .collect::<Option<_>>()?;
         reader.u32().filter(|&n| n == 6)?;
         let magic = reader.array()?;
         let count = reader.u32().filter(|&n| n <= 64)?;
@@ -109,14 +111,15 @@ impl Outcome {
             lines.push_str(&format!("{}\n", fault.line()));
         }
         let framing = self.bytes - self.payload;
-        lines + &format!(
-            "E {} {} {framing} {} {} {}\n",
-            self.ending(),
-            self.bytes,
-            self.payload,
-            self.objects,
-            self.repeats
-        )
+        lines
+            + &format!(
+                "E {} {} {framing} {} {} {}\n",
+                self.ending(),
+                self.bytes,
+                self.payload,
+                self.objects,
+                self.repeats
+            )
     }
 
     fn count(&mut self, step: &Step, n: usize) {

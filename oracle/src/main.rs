@@ -3,12 +3,15 @@
 
 mod answers;
 mod calls;
+mod compare;
 mod crc_form;
 mod drive;
+mod facts;
 mod form;
 mod heads;
 mod inputs;
 mod replay;
+mod selftest;
 
 // The Rust: what the walk does not use stays unused.
 #[allow(dead_code)]
@@ -18,11 +21,18 @@ mod crc_opened;
 #[allow(dead_code, unused_imports)]
 mod streaming;
 
+use compare::{Task, compare};
+use facts::facts;
 use std::io::{Read, Write};
+use std::path::Path;
 use std::process::ExitCode;
 
 const USAGE: &str = "usage: oracle table | crc | heads | drive | replay
-       oracle gen KIND SEED COUNT DIR   (KIND: crc, heads, drive, replay)";
+       oracle gen KIND SEED COUNT DIR
+       oracle compare KIND SEED COUNT OURS FOLDER
+       oracle facts SEED COUNT MAXBYTES
+       oracle selftest
+KIND is crc, heads, drive or replay";
 
 /// The input forms, each with its answers.
 #[derive(Clone, Copy, PartialEq, Eq)]
@@ -85,8 +95,20 @@ fn generate(kind: Kind, seed: u64, count: u64, dir: &str) -> Result<String, Stri
 
 fn run(arguments: &[&str]) -> Result<String, String> {
     match *arguments {
+        ["selftest"] => selftest::selftest(),
         ["table"] => crc_form::table(),
-        ["gen", name, seed, count, dir] => generate(kind(name)?, number(seed)?, number(count)?, dir),
+        ["gen", name, seed, count, dir] => {
+            generate(kind(name)?, number(seed)?, number(count)?, dir)
+        }
+        ["compare", name, seed, count, ours, folder] => compare(&Task {
+            kind: kind(name)?,
+            seed: number(seed)?,
+            count: number(count)?,
+            ours: Path::new(ours),
+            folder: Path::new(folder),
+        })
+        .map(|()| String::new()),
+        ["facts", seed, count, most] => facts(number(seed)?, number(count)?, number(most)?),
         [name] => {
             let kind = kind(name)?;
             Ok(kind.answer(&standard_input()?))

@@ -5,7 +5,9 @@
 use crate::answers::{bad_state, refusal, start_refusal, step_line};
 use crate::calls::{Call, parse};
 use crate::form::MALFORMED;
-use crate::streaming::door::{self, FlatWalker, Refusal, StreamError, begin, consistent, fit, forge};
+use crate::streaming::door::{
+    self, FlatWalker, Refusal, StreamError, begin, consistent, fit, forge,
+};
 
 /// What the calls are put to.
 pub enum Hand {

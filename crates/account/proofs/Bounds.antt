@@ -9,15 +9,15 @@ use Rattle.streaming.specs.Choose.{if_then_else_}
 use Rattle.streaming.specs.declared.Fault.{Fault}
 use Rattle.streaming.specs.declared.Answer.{Answer}
 use Rattle.streaming.specs.declared.Answer.the-variants as answer
-use Rattle.account.specs.Account.{Account, ask, over, demand, broken, askOf, passed, bytesTaken, broughtBy, bytesAtMost}
-use Rattle.account.specs.Statement.{Call, takes, after, part, Walker, Honest}
+use Rattle.account.specs.Account.{Account, over, demand, broken, askOf, passed, bytesTaken, broughtBy, bytesAtMost}
+use Rattle.account.specs.Statement.{Call, takes, after, part, Walker, HonestCall, Honest}
 use Rattle.account.specs.Runs.{run, Past, Bounded}
-use Rattle.account.specs.Tidy.{Quiet, Joined, last, more, torn, Tidy, tidy-over, tidy-ask}
+use Rattle.account.specs.Tidy.{last, more, torn, Tidy, tidy-over, tidy-ask}
 use Rattle.account.proofs.Asking.{demand-same}
 use Rattle.account.proofs.Parts.{part-inside}
 use Rattle.account.proofs.Fronts.{tidy-passed}
-use Rattle.account.proofs.Calls.{Taken, taken, taking, after-passed, after-refused}
-use Rattle.account.proofs.Does.{Does, Fair, asks, does-after}
+use Rattle.account.proofs.Calls.{taken, taking, after-passed}
+use Rattle.account.proofs.Does.{Does, asks, does-after}
 use Rattle.account.proofs.Refused.{repeats}
 
 -- ---- one piece, of n bytes that the source has
@@ -29,9 +29,10 @@ record Pieced (n : ℕ) (a : Account) : Type 0 where
 
 brought-some : (left : ℕ) (s : Answer) → 1 ≤ left → 1 ≤ broughtBy left s
 brought-some left (answer.Step s) h = omega arith
-brought-some left (answer.Refused e) h = h
+brought-some left (answer.Refused e) h = omega arith
 
-pieced : {src : List ℕ} (n : ℕ) {a : Account} → Tidy src a → (at left : ℕ) → askOf a ≡ demand at left → suc n ≤ left → at + suc n ≤ length src → Pieced (suc n) a
+pieced : {src : List ℕ} (n : ℕ) {a : Account} → Tidy src a → (at left : ℕ) → askOf a ≡ demand at left → suc n ≤ left → at + suc n ≤ length src
+    → Pieced (suc n) a
 unfolding bytesTaken bytesAtMost
 pieced {src} n (tidy-over p) at left e h i = let z : length src ≤ at = subst (Past src) e p in absurd (omega arith)
 pieced zero (tidy-ask {left = l} {says = s} p j t) at left e h i =
@@ -44,7 +45,8 @@ pieced (suc n) (tidy-ask {at = place} {says = s} p (more {left = l} q j) t) at l
       atMost = omega (arith, z .atMost, brought-some (suc l) s (omega arith));
       sound = λ k. omega (arith, z .sound k);
     }
-pieced (suc n) (tidy-ask p (torn {f = f}) t) at left e h i = record { fewer = omega arith; atMost = omega (arith, demand-same e); sound = λ k. absurd (k f refl) }
+pieced (suc n) (tidy-ask p (torn {f = f}) t) at left e h i =
+    record { fewer = omega arith; atMost = omega (arith, demand-same e); sound = λ k. absurd (k f refl) }
 
 some-pieced : {src : List ℕ} (p : List ℕ) {a : Account} → Tidy src a → (at left : ℕ) → askOf a ≡ demand at left → 0 < length p → length p ≤ left
     → p ≡ part src at (length p) → Pieced (length p) a
@@ -54,7 +56,7 @@ some-pieced (b ∷ bs) t at left e h k o = pieced (length bs) t at left e k (par
 -- ---- one call, and a run
 
 module _ {H : Type 0} (W : Walker H) {src : List ℕ} where
-  first-call : (c : Call) (cs : List Call) (st : W .State) {a : Account} → Tidy src a → Does W src st a → Fair W src st c
+  first-call : (c : Call) (cs : List Call) (st : W .State) {a : Account} → Tidy src a → Does W src st a → HonestCall W src st c
       → Bounded W (after a c) (W .feed st c .1) cs → Bounded W a st (c ∷ cs)
   unfolding if_then_else_ after
   first-call c cs st {a} t d h z = split (takes (W .request st) c) refl
@@ -65,10 +67,13 @@ module _ {H : Type 0} (W : Walker H) {src : List ℕ} where
       -- a piece at fault ends the walk
       broke : (f : Fault) → after a c ≡ over (broken f) → W .request (run W st (c ∷ cs)) ≡ broken f
       broke f o =
-          let k = does-after W st a d c h in repeats W src f (W .feed st c .1) (after a c) k (asks W (W .feed st c .1) (after a c) k .request ∙ ap askOf o) cs .request
+          let k = does-after W st a d c h in
+          repeats W src f (W .feed st c .1) (after a c) k (asks W (W .feed st c .1) (after a c) k .request ∙ ap askOf o) cs .request
 
       split : (b : Bool) → takes (W .request st) c ≡ b → Bounded W a st (c ∷ cs)
-      split false e = let y = rw (← q, e) at z in record { calls = rw e (omega (arith, y .calls)); atMost = rw e (omega (arith, y .atMost)); sound = λ k. rw e (omega (arith, y .sound k)) }
+      split false e =
+          let y = rw (← q, e) at z in
+          record { calls = rw e (omega (arith, y .calls)); atMost = rw e (omega (arith, y .atMost)); sound = λ k. rw e (omega (arith, y .sound k)) }
       split true e =
           let y = rw (← q, e) at z in
           let k = taken (W .request st) c e in

@@ -1,21 +1,21 @@
--- Laws of one call on an account: when it is taken, what it leaves, and what it commits.
-use Prim.Native.Nat.{ℕ, zero, suc, _+_, _≤_, _<_}
-use mathlib.Core.Bool.{Bool, true, false, _&&_, false≢true}
+-- Laws of one call on an account: when it is taken, what it leaves, and what it commits; and of the end of input.
+use Prim.Native.Nat.{ℕ, _+_, _≤_, _<_}
+use mathlib.Core.Bool.{Bool, true, false, false≢true}
 use mathlib.Core.List.{List, [], _∷_}
 use mathlib.Core.Path.{_≡_, refl, sym, ap}
 use native.Mathlib.Omega.{arith}
 use lib.ListN.{length}
-use lib.Dec.{ltb, leb, eqb}
+use lib.Dec.{ltb, eqb}
 use borrow.Author.Tests.{ltb-true, leb-true, eqb-true}
 use Rattle.streaming.specs.Choose.{if_then_else_}
 use Rattle.streaming.specs.Record.{committedIn}
 use Rattle.streaming.specs.declared.Asked.{Asked}
 use Rattle.streaming.specs.declared.Asked.the-variants as asked
-use Rattle.streaming.specs.declared.Answer.{Answer}
+use Rattle.streaming.specs.declared.Ended.the-variants as ended
 use Rattle.streaming.specs.declared.Answer.the-variants as answer
-use Rattle.streaming.proofs.Choose.{in-both, and-left, and-right}
+use Rattle.streaming.proofs.Choose.{and-left, and-right}
 use Rattle.account.specs.Account.{Account, demand, askOf, passed, saysAt, recordsWithin}
-use Rattle.account.specs.Statement.{Call, takes, refusal, answerOf, after}
+use Rattle.account.specs.Statement.{Call, takes, refusal, answerOf, after, endedBy}
 use Rattle.account.specs.Tidy.{Tidy}
 use Rattle.account.proofs.Fronts.{says-at, last-commits}
 
@@ -90,3 +90,11 @@ answer-last n a c = split (takes (askOf (passed n a)) c) refl
         → committedIn (answerOf (passed n a) c) ≡ if takes (askOf (passed n a)) c then committedIn (saysAt (n + length (c .piece)) a) else []
     split false e = rw e
     split true e = rw e (ap committedIn (says-at n (length (c .piece)) a (taken (askOf (passed n a)) c e .some)))
+
+-- ---- endedBy
+
+-- the walk is whole only where nothing is asked
+pub ended-whole : (q : Asked) → endedBy q ≡ ended.Whole → q ≡ asked.Nothing
+ended-whole (asked.Demand r) e = let z : _≡_ {A = ℕ} 0 1 = cc in absurd (omega arith)
+ended-whole asked.Nothing e = refl
+ended-whole (asked.Refused e′) e = let z : _≡_ {A = ℕ} 0 1 = cc in absurd (omega arith)

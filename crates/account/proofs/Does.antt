@@ -1,32 +1,25 @@
 -- A walker that follows an account in every run over a source follows, behind some calls, what is left of the account.
 use Prim.Native.Nat.{ℕ}
-use mathlib.Core.Bool.{true, false}
 use mathlib.Core.List.{List, [], _∷_}
-use mathlib.Core.Path.{_≡_, refl}
-use lib.ListN.{length}
-use Rattle.streaming.specs.Choose.{if_then_else_}
+use mathlib.Core.Path.{_≡_}
 use Rattle.account.specs.Account.{Account, askOf, passed}
-use Rattle.account.specs.Statement.{Call, takes, after, answerOf, part, Walker, Honest, Asks, Follows, Meets}
+use Rattle.account.specs.Statement.{Call, after, answerOf, Walker, HonestCall, Honest, Asks, Follows, Meets}
 use Rattle.account.specs.Runs.{run, bytes}
 use Rattle.account.proofs.Fronts.{passed-passed}
-use Rattle.account.proofs.Calls.{taking, after-passed, after-refused}
+use Rattle.account.proofs.Calls.{taking, after-passed}
 
 module _ {H : Type 0} (W : Walker H) where
   abbrev pub Does : List ℕ → W .State → Account → Type 0
   Does src st a = (cs : List Call) → Honest W src st cs → Follows W st a cs
 
-  -- a call that may be made: if it is taken, it has the source's bytes
-  abbrev pub Fair : List ℕ → W .State → Call → Type 0
-  Fair src st c = takes (W .request st) c ≡ true → c .piece ≡ part src (c .offset) (length (c .piece))
-
   module _ {src : List ℕ} (st : W .State) (a : Account) (does : Does src st a) where
     pub asks : Asks W st a
     asks = does [] tt
 
-    pub answers : (c : Call) → Fair src st c → W .feed st c .0 ≡ answerOf a c
+    pub answers : (c : Call) → HonestCall W src st c → W .feed st c .0 ≡ answerOf a c
     answers c h = does (c ∷ []) (h, tt) .1
 
-    pub does-after : (c : Call) → Fair src st c → Does src (W .feed st c .1) (after a c)
+    pub does-after : (c : Call) → HonestCall W src st c → Does src (W .feed st c .1) (after a c)
     does-after c h cs k = does (c ∷ cs) (h, k) .2
 
   pub does-run : (cs : List Call) {src : List ℕ} (st : W .State) (a : Account) → Does src st a → Honest W src st cs

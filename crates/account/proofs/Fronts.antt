@@ -1,6 +1,6 @@
 -- Laws of an account's fronts: what its first n bytes commit, what is left behind them, and what the n-th says.
 use Prim.Native.Nat.{ℕ, zero, suc, _+_, _-_, _≤_, _<_}
-use mathlib.Core.List.{List, [], _∷_, _++_, append-assoc, append-nil}
+use mathlib.Core.List.{List, [], _++_, append-assoc, append-nil}
 use mathlib.Core.Path.{_≡_, refl, sym}
 use native.Mathlib.Omega.{arith}
 use native.Mathlib.Nat.{zero-add, suc-add, add-suc}
@@ -10,9 +10,9 @@ use Rattle.streaming.specs.declared.Asked.{Asked}
 use Rattle.streaming.specs.declared.Asked.the-variants as asked
 use Rattle.streaming.specs.declared.Answer.{Answer}
 use Rattle.streaming.specs.declared.Answer.the-variants as answer
-use Rattle.account.specs.Account.{Account, ask, over, demand, askOf, passed, saysIn, saysAt, recordsIn, recordsWithin, endingOf, bytesTaken}
+use Rattle.account.specs.Account.{Account, ask, over, demand, askOf, passed, saysIn, saysAt, recordsIn, recordsWithin, endingOf}
 use Rattle.account.specs.Runs.{Past}
-use Rattle.account.specs.Tidy.{Quiet, Joined, last, more, torn, Tidy, tidy-over, tidy-ask}
+use Rattle.account.specs.Tidy.{Quiet, last, more, torn, Tidy, tidy-over, tidy-ask}
 use Rattle.account.proofs.Asking.{demand-same}
 
 -- ---- passed

@@ -8,11 +8,11 @@ pub mod Unique
 pub mod Refused
 pub mod Parts
 pub mod Bounds
+pub mod Brought
 pub mod Carried
-pub mod Onward
-pub mod Feeding
-pub mod Spans
-pub mod Spells
-pub mod Phases
-pub mod Spelled
 pub mod Main
+pub mod Instance
+pub mod Cases
+pub mod Demands
+pub mod Walks
+pub mod Walking

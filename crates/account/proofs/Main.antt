@@ -1,7 +1,7 @@
 -- The file to open first: what follows for any walker that meets some rules, each statement in full, and where its proof stands.
 use Prim.Native.Nat.{ℕ, _+_, _≤_}
-use mathlib.Core.Bool.{true, false}
-use mathlib.Core.List.{List, [], _∷_, _++_}
+use mathlib.Core.Bool.{false}
+use mathlib.Core.List.{List, [], _++_}
 use mathlib.Core.Logic.{_⊎_}
 use mathlib.Core.Path.{_≡_, sym, _∙_}
 use lib.ListN.{length}
@@ -10,10 +10,11 @@ use Rattle.streaming.specs.Record.{committedIn}
 use Rattle.streaming.specs.declared.Fault.{Fault}
 use Rattle.streaming.specs.declared.Asked.{Asked}
 use Rattle.streaming.specs.declared.Ended.{Ended}
+use Rattle.streaming.specs.declared.Ended.the-variants as ended
 use Rattle.streaming.specs.declared.Answer.{Answer}
 use Rattle.streaming.specs.declared.Answer.the-variants as answer
 use Rattle.account.specs.Account.{Account, broken, passed, saysAt, recordsIn, recordsWithin}
-use Rattle.account.specs.Statement.{Call, takes, refusal, part, Walker, Honest, Meets}
+use Rattle.account.specs.Statement.{Call, takes, refusal, Walker, HonestCall, Honest, Meets}
 use Rattle.account.specs.Runs.{run, bytes, committed, Past, Whole, Bounded, Repeats, Front, Alike}
 use Rattle.account.specs.Tidy.{Tidy}
 use Rattle.account.proofs.Does.{Does, does-run, meets-does}
@@ -43,7 +44,7 @@ module _ {H : Type 0} (Of : H → List ℕ → Type 0) (rules : H → List ℕ �
     committed-begins = S.begins W (tidy h src of) (W .start h) doing cs honest
 
     -- A further call commits what the rules say at the last byte that it takes; one that is not taken commits nothing.
-    pub last-byte-commits : (c : Call) → (takes (W .request (run W (W .start h) cs)) c ≡ true → c .piece ≡ part src (c .offset) (length (c .piece)))
+    pub last-byte-commits : (c : Call) → HonestCall W src (run W (W .start h) cs) c
         → committedIn (W .feed (run W (W .start h) cs) c .0)
         ≡ if takes (W .request (run W (W .start h) cs)) c then committedIn (saysAt (bytes W (W .start h) cs + length (c .piece)) (rules h src)) else []
     last-byte-commits = S.last-byte W (tidy h src of) (W .start h) doing cs honest
@@ -51,6 +52,10 @@ module _ {H : Type 0} (Of : H → List ℕ → Type 0) (rules : H → List ℕ �
     -- A run that has taken all that it is asked for, as far as the source has it, has the whole list and the rules' own ending.
     pub whole-run : Past src (W .request (run W (W .start h) cs)) → Whole W (rules h src) (W .start h) cs
     whole-run = S.whole W (tidy h src of) (W .start h) doing cs honest
+
+    -- So has a run whose end of input is answered as whole.
+    pub told-whole : W .endOfInput (run W (W .start h) cs) ≡ ended.Whole → Whole W (rules h src) (W .start h) cs
+    told-whole = S.told-whole W (tidy h src of) (W .start h) doing cs honest
 
     -- A call that is not taken is refused for what it does not fit,
     pub refused-for : (c : Call) → takes (W .request (run W (W .start h) cs)) c ≡ false

@@ -1,10 +1,14 @@
--- Laws of a part of a source: its length, its first and its last byte, and its bytes one by one.
+-- Laws of a part of a source: its length, its first and its last byte, its bytes one by one, and its parts.
 use Prim.Native.Nat.{ℕ, suc, _+_, _-_, _≤_, _<_}
 use mathlib.Core.List.{List, [], _∷_, _++_}
-use mathlib.Core.Path.{_≡_, ap}
+use mathlib.Core.Bool.{Bool, true, false}
+use mathlib.Core.Logic.{_⊎_, inl, inr}
+use mathlib.Core.Path.{_≡_, refl, sym, ap, ap₂, _∙_}
 use native.Mathlib.Omega.{arith}
-use lib.ListN.{length, take, drop, getD, length-take, length-drop}
-use lib.Seq.{take-suc, drop-cons, getD-drop}
+use lib.ListN.{length, drop, getD, length-take, length-drop}
+use lib.Dec.{eqb}
+use borrow.Author.Tests.{eqb-true, eqb-false}
+use lib.Seq.{take-suc, take-add, drop-cons, drop-drop, getD-drop}
 use Rattle.account.specs.Statement.{part}
 
 pub length-part : (src : List ℕ) (at n : ℕ) → n ≤ length src - at → length (part src at n) ≡ n
@@ -34,3 +38,19 @@ read-part src at (b ∷ bs) e = (h, cc e′, read-part src (suc at) bs (cc e′)
 
     e′ : b ∷ bs ≡ getD src at 0 ∷ part src (suc at) (length bs)
     e′ = rw (part-cons src at (length bs) h) at e
+
+-- a part in two
+pub part-add : (src : List ℕ) (at d k : ℕ) → part src at d ++ part src (at + d) k ≡ part src at (d + k)
+part-add src at d k = sym (take-add d k (drop at src) ∙ rw drop-drop)
+
+-- two lists of bytes are the same, or not
+abbrev pub same-cons : (x y : ℕ) (xs ys : List ℕ) (b : Bool) → eqb x y ≡ b → (xs ≡ ys) ⊎ (xs ≡ ys → ⊥) → (x ∷ xs ≡ y ∷ ys) ⊎ (x ∷ xs ≡ y ∷ ys → ⊥)
+same-cons x y xs ys false e s = inr (λ q. eqb-false x y e (cc q))
+same-cons x y xs ys true e (inl s) = inl (ap₂ (λ (z : ℕ) (zs : List ℕ). z ∷ zs) (eqb-true x y e) s)
+same-cons x y xs ys true e (inr s) = inr (λ q. s (cc q))
+
+abbrev pub same-or-not : (xs ys : List ℕ) → (xs ≡ ys) ⊎ (xs ≡ ys → ⊥)
+same-or-not [] [] = inl refl
+same-or-not [] (y ∷ ys) = inr (λ e. let z : _≡_ {A = ℕ} 0 1 = cc in omega arith)
+same-or-not (x ∷ xs) [] = inr (λ e. let z : _≡_ {A = ℕ} 0 1 = cc in omega arith)
+same-or-not (x ∷ xs) (y ∷ ys) = same-cons x y xs ys (eqb x y) refl (same-or-not xs ys)

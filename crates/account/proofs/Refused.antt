@@ -4,14 +4,13 @@ use mathlib.Core.Bool.{true, false, false≢true}
 use mathlib.Core.List.{List, [], _∷_}
 use mathlib.Core.Path.{_≡_, refl, sym, ap, _∙_, subst}
 use native.Mathlib.Omega.{arith}
-use Rattle.streaming.specs.Choose.{if_then_else_}
 use Rattle.streaming.specs.declared.Fault.{Fault}
 use Rattle.streaming.specs.declared.Answer.the-variants as answer
-use Rattle.account.specs.Account.{Account, ask, over, askOf, broken, faulted}
-use Rattle.account.specs.Statement.{Call, takes, refusal, after, answerOf, endedBy, Walker, Honest}
+use Rattle.account.specs.Account.{Account, ask, over, askOf, broken}
+use Rattle.account.specs.Statement.{Call, takes, refusal, Walker, HonestCall, Honest}
 use Rattle.account.specs.Runs.{run, Alike, Repeats}
 use Rattle.account.proofs.Calls.{after-refused, answer-refused}
-use Rattle.account.proofs.Does.{Does, Fair, asks, answers, does-after}
+use Rattle.account.proofs.Does.{Does, asks, answers, does-after}
 use Rattle.account.proofs.Unique.{alike}
 
 -- an account that asks about a fault is at its end
@@ -38,7 +37,7 @@ module _ {H : Type 0} (W : Walker H) (src : List ℕ) (f : Fault) where
   Broke st = Does W src st (over (broken f))
 
   -- no call is taken any more
-  fair : (st : W .State) → Broke st → (c : Call) → Fair W src st c
+  fair : (st : W .State) → Broke st → (c : Call) → HonestCall W src st c
   fair st d c e = absurd (false≢true (rw (asks W st (over (broken f)) d .request) at e))
 
   stays : (ds : List Call) (st : W .State) → Broke st → Broke (run W st ds)

@@ -1,22 +1,23 @@
 -- A committed record stands: what a walker has committed is what the account commits in the bytes taken.
-use Prim.Native.Nat.{ℕ, zero, suc, _+_, _-_, _≤_}
+use Prim.Native.Nat.{ℕ, _+_, _-_, _≤_}
 use mathlib.Core.Bool.{Bool, true, false}
 use mathlib.Core.List.{List, [], _∷_, _++_, append-nil}
 use mathlib.Core.Logic.{_⊎_, inl, inr}
-use mathlib.Core.Path.{_≡_, refl, sym, ap, ap₂, _∙_}
+use mathlib.Core.Path.{_≡_, refl, sym, ap, ap₂, _∙_, subst}
 use native.Mathlib.Omega.{arith}
 use lib.ListN.{length}
 use lib.Dec.{leb}
 use borrow.Author.Tests.{leb-true, leb-false}
 use Rattle.streaming.specs.Choose.{if_then_else_}
-use Rattle.streaming.specs.Record.{Record, committedIn}
+use Rattle.streaming.specs.Record.{committedIn}
+use Rattle.streaming.specs.declared.Ended.the-variants as ended
 use Rattle.account.specs.Account.{Account, askOf, passed, saysAt, recordsIn, recordsWithin, endingOf}
-use Rattle.account.specs.Statement.{Call, takes, endedBy, Walker, Honest, Follows}
+use Rattle.account.specs.Statement.{Call, takes, endedBy, Walker, HonestCall, Honest, Follows}
 use Rattle.account.specs.Runs.{run, bytes, committed, Past, Whole, Front}
 use Rattle.account.specs.Tidy.{Tidy}
 use Rattle.account.proofs.Fronts.{within-add, within-rest, tidy-passed, ending-passed, past-over}
-use Rattle.account.proofs.Calls.{taking, after-passed, answer-commits, answer-last}
-use Rattle.account.proofs.Does.{Does, Fair, asks, answers, does-run}
+use Rattle.account.proofs.Calls.{taking, after-passed, answer-commits, answer-last, ended-whole}
+use Rattle.account.proofs.Does.{Does, asks, answers, does-run}
 
 module _ {H : Type 0} (W : Walker H) {src : List ℕ} where
   commits : (cs : List Call) {a : Account} (st : W .State) → Tidy src a → Follows W st a cs → committed W st cs ≡ recordsWithin (bytes W st cs) a
@@ -39,8 +40,9 @@ module _ {H : Type 0} (W : Walker H) {src : List ℕ} where
     front cs h = record { rest = recordsIn (passed (bytes W st cs) a); whole-is = begins cs h }
 
     -- (b) the call that takes a record's last byte commits it
-    pub last-byte : (cs : List Call) → Honest W src st cs → (c : Call) → Fair W src (run W st cs) c
-        → committedIn (W .feed (run W st cs) c .0) ≡ if takes (W .request (run W st cs)) c then committedIn (saysAt (bytes W st cs + length (c .piece)) a) else []
+    pub last-byte : (cs : List Call) → Honest W src st cs → (c : Call) → HonestCall W src (run W st cs) c
+        → committedIn (W .feed (run W st cs) c .0)
+        ≡ if takes (W .request (run W st cs)) c then committedIn (saysAt (bytes W st cs + length (c .piece)) a) else []
     last-byte cs h c k =
         let d = does-run W cs st a does h in
         rw (asks W (run W st cs) _ d .request, answers W (run W st cs) _ d c k) (answer-last (bytes W st cs) a c)
@@ -57,6 +59,11 @@ module _ {H : Type 0} (W : Walker H) {src : List ℕ} where
           endOfInput = q .endOfInput ∙ ap endedBy e;
         }
 
+    pub told-whole : (cs : List Call) → Honest W src st cs → W .endOfInput (run W st cs) ≡ ended.Whole → Whole W a st cs
+    told-whole cs h e =
+        let q = asks W (run W st cs) _ (does-run W cs st a does h) in
+        whole cs h (subst (Past src) (sym (q .request ∙ ended-whole _ (sym (q .endOfInput) ∙ e))) tt)
+
     -- (d) of two runs, the one that has taken more bytes has committed all that the other has
     pub further : (cs ds : List Call) → Honest W src st cs → Honest W src st ds → bytes W st cs ≤ bytes W st ds → Front (committed W st cs) (committed W st ds)
     further cs ds h k l =
@@ -72,7 +79,8 @@ module _ {H : Type 0} (W : Walker H) {src : List ℕ} where
         → Front (committed W st cs) (committed W st ds) ⊎ Front (committed W st ds) (committed W st cs)
     either-way cs ds h k = split (leb (bytes W st cs) (bytes W st ds)) refl
       where
-        split : (b : Bool) → leb (bytes W st cs) (bytes W st ds) ≡ b → Front (committed W st cs) (committed W st ds) ⊎ Front (committed W st ds) (committed W st cs)
+        split : (b : Bool) → leb (bytes W st cs) (bytes W st ds) ≡ b
+            → Front (committed W st cs) (committed W st ds) ⊎ Front (committed W st ds) (committed W st cs)
         split true e = inl (further cs ds h k (leb-true (bytes W st cs) (bytes W st ds) e))
         split false e = inr (further ds cs k h (omega (arith, leb-false (bytes W st cs) (bytes W st ds) e)))
 

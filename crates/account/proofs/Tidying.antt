@@ -33,7 +33,8 @@ module _ {src : List ℕ} where
   pub tidy-askByte : (at left : ℕ) {says : Answer} {rest : Account} → Joined at left says rest → (at < length src → Tidy src rest)
       → Tidy src (askByte src at left says rest)
   tidy-askByte at left j r =
-      tidy-if (ltb at (length src)) (λ e. tidy-ask (ltb-true at (length src) e) j (r (ltb-true at (length src) e))) (λ e. tidy-over (ltb-false at (length src) e))
+      tidy-if (ltb at (length src)) (λ e. tidy-ask (ltb-true at (length src) e) j (r (ltb-true at (length src) e)))
+      (λ e. tidy-over (ltb-false at (length src) e))
 
   -- ---- a demand: `tidy-span` of one byte or more; `tidy-span-any` of any number, `passing` among them
 
@@ -43,7 +44,8 @@ module _ {src : List ℕ} where
   tidy-span at (suc n) plain t q r =
       tidy-askByte at (suc (suc n)) (more q (span-asks src (suc at) n plain t)) (λ l. tidy-span (suc at) n plain t q (λ k. r (omega arith)))
 
-  pub tidy-span-some : (at n : ℕ) (plain : Answer) (t : Turn) → 0 < n → Quiet plain → (at + n ≤ length src → Tidy src (t .rest)) → Tidy src (span src at n plain t)
+  pub tidy-span-some : (at n : ℕ) (plain : Answer) (t : Turn) → 0 < n → Quiet plain → (at + n ≤ length src → Tidy src (t .rest))
+      → Tidy src (span src at n plain t)
   tidy-span-some at zero plain t h q r = absurd (omega arith)
   tidy-span-some at (suc n) plain t h q r = tidy-span at n plain t q r
 
@@ -66,7 +68,8 @@ module _ {src : List ℕ} where
 
   -- ---- a demand whose bytes are given
 
-  pub tidy-spell : (at w : ℕ) (ws : List ℕ) (f : Fault) (t : Turn) → (at + suc (length ws) ≤ length src → Tidy src (t .rest)) → Tidy src (spell src at (w ∷ ws) f t)
+  pub tidy-spell : (at w : ℕ) (ws : List ℕ) (f : Fault) (t : Turn) → (at + suc (length ws) ≤ length src → Tidy src (t .rest))
+      → Tidy src (spell src at (w ∷ ws) f t)
   unfolding spell
   tidy-spell at w [] f t r =
       tidy-if (eqb (getD src at 0) w) (λ e. tidy-askByte at 1 last (λ l. r (omega arith))) (λ e. tidy-askByte at 1 torn (λ l. tidy-bad f))

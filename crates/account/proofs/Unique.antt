@@ -1,7 +1,7 @@
 -- One input, one outcome: two walkers that follow one account ask and answer alike.
 use Prim.Native.Nat.{ℕ}
 use mathlib.Core.List.{List, [], _∷_}
-use mathlib.Core.Path.{_≡_, sym, _∙_}
+use mathlib.Core.Path.{sym, _∙_}
 use Rattle.account.specs.Account.{Account}
 use Rattle.account.specs.Statement.{Call, after, Walker, Honest}
 use Rattle.account.specs.Runs.{AskAlike, Alike}

@@ -66,10 +66,13 @@ abbrev pub part : List ℕ → (at n : ℕ) → List ℕ
 part src at n = take n (drop at src)
 
 module _ {H : Type 0} (W : Walker H) where
-  -- each piece that is taken has the source's bytes at its place; what is refused may be anything
+  -- a piece that is taken has the source's bytes at its place; what is refused may be anything
+  abbrev pub HonestCall : (src : List ℕ) → W .State → Call → Type 0
+  HonestCall src st c = takes (W .request st) c ≡ true → c .piece ≡ part src (c .offset) (length (c .piece))
+
   abbrev pub Honest : (src : List ℕ) → W .State → List Call → Type 0
   Honest src st [] = Unit {0}
-  Honest src st (c ∷ cs) = (takes (W .request st) c ≡ true → c .piece ≡ part src (c .offset) (length (c .piece))) × Honest src (W .feed st c .1) cs
+  Honest src st (c ∷ cs) = HonestCall src st c × Honest src (W .feed st c .1) cs
 
   -- the walker asks what the account asks, before and after every call
   pub record Asks (st : W .State) (a : Account) : Type 0 where

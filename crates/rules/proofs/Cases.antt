@@ -1,7 +1,6 @@
 -- Document 01's whole case, damaged copies of it, and a source that ends before a second size word: what the rules say, by computation.
 use Prim.Native.Nat.{ℕ}
 use mathlib.Core.List.{List, [], _∷_, _++_}
-use mathlib.Core.Option.{none}
 use mathlib.Core.Path.{_≡_, refl}
 use lib.ListN.{replicate, set}
 use Rattle.streaming.specs.Record.{Record, section, object}
@@ -134,7 +133,7 @@ pub record Damaged : Type 0 where
       ≡ record { records = sectionsAnd []; ending = broken (fault.ObjectHeader 5); bytes = 93; payloadBytes = 3 }
 
 -- the source ends where a second size word is asked for, or inside that word: 6 at the source's length
-pub record Stalling : Type 0 where
+pub record Stalled : Type 0 where
   pub before-word : outcomeOf (rules (stallingHeader 159) (stalling (0x01 ∷ 0x80 ∷ [])))
       ≡ record { records = sectionsAnd []; ending = demand 159 2; bytes = 88; payloadBytes = 0 }
   pub inside-word : outcomeOf (rules (stallingHeader 160) (stalling (0x01 ∷ 0x80 ∷ 0x00 ∷ [])))
@@ -163,6 +162,6 @@ damaged = record {
   object-header = refl;
 }
 
-pub stalling-cases : Stalling
+pub stalled : Stalled
 unfolding every-rule
-stalling-cases = record { before-word = refl; inside-word = refl; no-size = refl }
+stalled = record { before-word = refl; inside-word = refl; no-size = refl }

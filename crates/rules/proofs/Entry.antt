@@ -1,15 +1,12 @@
 -- The entries of a chunk lie one behind another in its bytes: an entry takes two bytes at least, and a refused one at least one.
-use Prim.Native.Nat.{ℕ, zero, suc, _+_, _-_, _≤_, _<_, _^_}
-use mathlib.Core.Bool.{_&&_}
+use Prim.Native.Nat.{ℕ, zero, suc, _+_, _-_, _≤_, _<_}
 use mathlib.Core.List.{List, [], _∷_}
 use mathlib.Core.Option.{Option, none, some}
-use mathlib.Core.Path.{_≡_, refl}
 use native.Mathlib.Omega.{arith}
 use lib.ListN.{length, take, drop, length-take, length-drop}
-use lib.Dec.{ltb}
 use borrow.Author.Tests.{ltb-true}
-use Rattle.streaming.proofs.Choose.{in-both, and-right}
-use Rattle.rules.specs.Entry.{before, groupsOf, deltaIn, handleDelta, locationDelta, moved}
+use Rattle.streaming.proofs.Choose.{in-both, and-left}
+use Rattle.rules.specs.Entry.{before, groupsOf, deltaIn, locationDelta, moved}
 use Rattle.rules.specs.Entry.{Entry, leads, refused, entryAt, withLocation, withHandle, entryIn, followed, entriesFrom}
 
 -- ---- a delta takes a byte at least, and lies in what it is read from
@@ -21,7 +18,7 @@ Short room (some groups) = (1 ≤ length groups) × (length groups ≤ room)
 groups-short : (bytes : List ℕ) → Short (length bytes) (groupsOf bytes)
 unfolding groupsOf
 groups-short [] = tt
-groups-short (b ∷ bs) = in-both (Short (suc (length bs))) (ltb b 0x80) (λ e. (omega arith, omega arith)) (λ e. longer (groupsOf bs) (groups-short bs))
+groups-short (b ∷ bs) = in-both (Short (suc (length bs))) _ (λ e. (omega arith, omega arith)) (λ e. longer (groupsOf bs) (groups-short bs))
   where
     longer : (o : Option (List ℕ)) → Short (length bs) o → Short (suc (length bs)) (before b o)
     longer none s = tt
@@ -58,8 +55,8 @@ handle-fits : (handle location : ℕ) (bytes : List ℕ) (o : Option (List ℕ))
 unfolding withHandle
 handle-fits handle location bytes none k s = (omega arith, omega arith)
 handle-fits handle location bytes (some groups) k s =
-    in-both (Fits (length bytes)) (ltb (handle + handleDelta groups) (2 ^ 64) && ltb (length groups) (length bytes))
-    (λ e. let l : length groups < length bytes = ltb-true (length groups) (length bytes) (and-right (ltb (handle + handleDelta groups) (2 ^ 64)) _ e) in
+    in-both (Fits (length bytes)) _
+    (λ e. let l : length groups < length bytes = ltb-true (length groups) (length bytes) (and-left _ _ e) in
     location-fits (length bytes) (length groups) _ location (drop (length groups) bytes) _ (delta-short (drop (length groups) bytes)) (s .0)
     (omega (arith, length-drop (length groups) bytes)))
     (λ e. s)

@@ -13,6 +13,7 @@ use Rattle.rules.specs.Header.{locatorOf, startRefusal}
 use Rattle.rules.specs.Section.{startSentinel, endSentinel}
 use Rattle.rules.specs.Entry.{leads, refused, entriesOf}
 use Rattle.rules.specs.Rules.{rules}
+use Rattle.rules.specs.PlainList.{told}
 use Rattle.rules.proofs.EveryRule.{every-rule}
 use Rattle.rules.proofs.Cases.{AC1014, locator, headerWith, whole}
 
@@ -67,15 +68,17 @@ turned [] = []
 turned (b ∷ bs) = (0xFF - b) ∷ turned bs
 
 pub record SectionLimits : Type 0 where
-  -- a locator of 37 bytes is refused on entry, and no byte is asked for; of 38 it is a section (the whole case)
+  -- a locator of 37 bytes is refused on entry, and no byte is asked for; of 38 it is a section (the whole case); of 39 its size has to say so
   pub too-small : rules (headerWith (locator 0 70 37) (locator 1 108 38) (locator 2 153 11) 164) whole ≡ over (broken (fault.SectionSize 0))
+  pub too-large : told (rules (headerWith (locator 0 70 39) (locator 1 108 38) (locator 2 153 11) 164) whole)
+      ≡ record { records = []; ending = broken (fault.SectionSize 0) }
   -- each end sentinel is its start sentinel with every bit turned
   pub vars-sentinels : endSentinel HeaderVars ≡ turned (startSentinel HeaderVars)
   pub classes-sentinels : endSentinel Classes ≡ turned (startSentinel Classes)
 
 pub sectionLimits : SectionLimits
 unfolding every-rule
-sectionLimits = record { too-small = refl; vars-sentinels = refl; classes-sentinels = refl }
+sectionLimits = record { too-small = refl; too-large = refl; vars-sentinels = refl; classes-sentinels = refl }
 
 -- ---- Start
 

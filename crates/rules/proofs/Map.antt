@@ -26,4 +26,4 @@ pub chunk-within : (src : List ℕ) (chunk size : ℕ) → (room : ℕ) × (room
 unfolding chunkEntries
 chunk-within src chunk size =
     let bytes = part src (chunk + 2) (size - 2) in
-    (length bytes, omega (arith, length-take (size - 2) (drop (chunk + 2) src)), entries-within _ 0 0 bytes)
+    (length bytes, omega (arith, length-take (size - 2) (drop (chunk + 2) src)), entries-within _ _ _ bytes)

@@ -1,5 +1,4 @@
 -- The parts that are sections, and the length of their sentinels.
-use Prim.Native.Nat.{ℕ}
 use mathlib.Core.Path.{_≡_, refl}
 use lib.ListN.{length}
 use Rattle.streaming.specs.declared.Part.{Part}

@@ -2,7 +2,7 @@
 use Prim.Native.Nat.{ℕ, zero, suc, _+_, _≤_, _<_}
 use mathlib.Core.Bool.{Bool, true, false, _&&_}
 use mathlib.Core.List.{List, [], _∷_, _++_}
-use mathlib.Core.Path.{_≡_, refl, ap, _∙_}
+use mathlib.Core.Path.{_≡_, refl, _∙_}
 use native.Mathlib.Omega.{arith}
 use lib.ListN.{length, getD}
 use lib.Seq.{drop-cons}
@@ -91,7 +91,8 @@ module _ (src : List ℕ) where
       rw (drop-cons src at 0 (omega arith), lt-ltb at (length src) (omega arith)) (both (eqb (getD src at 0) w) (spell-told (suc at) v vs f t (omega arith)))
     where
       both : (b : Bool) → told (spell src (suc at) (v ∷ vs) f t) ≡ require (same (part src (suc at) (suc (length vs))) (v ∷ vs)) f (toldTurn t)
-          → told (if b then ask at (suc (suc (length vs))) framing (spell src (suc at) (v ∷ vs) f t) else ask at (suc (suc (length vs))) (faulted f) (over (broken f)))
+          → told (if b then ask at (suc (suc (length vs))) framing (spell src (suc at) (v ∷ vs) f t)
+          else ask at (suc (suc (length vs))) (faulted f) (over (broken f)))
           ≡ require (b && same (part src (suc at) (suc (length vs))) (v ∷ vs)) f (toldTurn t)
       both true e = told-ask _ _ _ _ ∙ e
       both false e = told-ask _ _ _ _ ∙ told-bad f

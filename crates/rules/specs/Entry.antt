@@ -80,11 +80,11 @@ unfoldable pub withLocation : (n handle location : ℕ) (bytes : List ℕ) → O
 withLocation n handle location bytes none = refused (n + refusedIn bytes)
 withLocation n handle location bytes (some groups) = entryAt (n + length groups) handle (moved location (locationDelta groups))
 
--- the handle delta: the sum fits 64 bits, and the chunk goes on behind it
+-- the handle delta: the chunk goes on behind it, and the sum fits 64 bits
 unfoldable pub withHandle : (handle location : ℕ) (bytes : List ℕ) → Option (List ℕ) → Entry
 withHandle handle location bytes none = refused (refusedIn bytes)
 withHandle handle location bytes (some groups) =
-    if ltb (handle + handleDelta groups) (2 ^ 64) && ltb (length groups) (length bytes) then
+    if ltb (length groups) (length bytes) && ltb (handle + handleDelta groups) (2 ^ 64) then
     (let behind = drop (length groups) bytes in
     withLocation (length groups) (handle + handleDelta groups) location behind (deltaIn behind))
     else refused (length groups)

@@ -3,8 +3,6 @@ use Prim.Native.Nat.{ℕ, _+_}
 use mathlib.Core.List.{List, [], _∷_}
 use mathlib.Core.Path.{_≡_}
 use Rattle.streaming.specs.Record.{Record, section, object, committedIn}
-use Rattle.streaming.specs.declared.SectionRecord.{SectionRecord}
-use Rattle.streaming.specs.declared.ObjectRecord.{ObjectRecord}
 use Rattle.streaming.specs.declared.Asked.{Asked}
 use Rattle.streaming.specs.declared.Answer.{Answer}
 use Rattle.account.specs.Account.{Account, ask, over}

@@ -9,3 +9,5 @@ pub mod Map
 pub mod Rules
 pub mod PlainList
 pub mod LastByte
+pub mod Stall
+pub mod Payload

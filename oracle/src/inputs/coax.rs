@@ -67,14 +67,18 @@ fn object(rng: &mut Rng, header: &Header, s: &State) -> Vec<u8> {
     let begin = u32::from(s.ms_len);
     let end = begin + s.size;
     if begin == 0 {
-        let small = rng.between(1, 20) as u32;
+        let small = rng.pick(&[1, 2, 3, 9, 14, 16, 17, 20]);
         let two = rng.one_in(4);
         return rest(&size_words(small, two), s.done);
     }
     if s.done < end {
         let r2000 = header.magic == *b"AC1015";
         let opening = Opening::random(rng, r2000, s.handle).bytes(rng);
-        return if s.done == begin { opening } else { rng.bytes(8) };
+        return if s.done == begin {
+            opening
+        } else {
+            rng.bytes(8)
+        };
     }
     rest(&s.crc.to_le_bytes(), s.done - end)
 }

@@ -151,7 +151,7 @@ fn place(plan: &Plan, blob: Blob, at: usize, places: &mut Places) -> usize {
     }
 }
 
-fn put(source: &mut [u8], at: usize, bytes: &[u8]) {
+pub fn put(source: &mut [u8], at: usize, bytes: &[u8]) {
     source[at..at + bytes.len()].copy_from_slice(bytes);
 }
 
@@ -169,7 +169,11 @@ fn locators(units: &[Locator; 3], count: usize, length: usize, rng: &mut Rng) ->
             offset: rng.below(length + 1) as u32,
             size,
         };
-        let at = if honest { rng.below(list.len() + 1) } else { list.len() };
+        let at = if honest {
+            rng.below(list.len() + 1)
+        } else {
+            list.len()
+        };
         list.insert(at, l);
     }
     list
@@ -209,7 +213,11 @@ pub fn lay_out(mut plan: Plan, rng: &mut Rng) -> Drawing {
 }
 
 fn filler(n: usize, rng: &mut Rng) -> Vec<u8> {
-    if rng.one_in(2) { vec![0; n] } else { rng.bytes(n) }
+    if rng.one_in(2) {
+        vec![0; n]
+    } else {
+        rng.bytes(n)
+    }
 }
 
 fn chunk_places(map: usize, chunks: &[Vec<u8>]) -> Vec<usize> {
@@ -233,51 +241,10 @@ impl Drawing {
                 put(source, places.records[number], &record.bytes());
             }
         }
-        for part in 0..2 {
-            put(source, places.sections[part], &section_bytes(part, &data[part]));
+        for (part, data) in data.iter().enumerate() {
+            put(source, places.sections[part], &section_bytes(part, data));
         }
         put(source, places.map, map);
         put(source, places.tail, &plan.tail);
     }
-
-    /// Makes the CRCs right again: those of records first, since a section
-    /// may hold them.
-    pub fn mend(&mut self) {
-        let source = &mut self.case.source;
-        for &at in &self.records {
-            mend_record(source, at);
-        }
-        for unit in &self.units[..2] {
-            let (at, size) = (unit.offset as usize, unit.size as usize);
-            mend_crc(source, at + 16, at + size - 18, u16::to_le_bytes);
-        }
-        for &at in &self.chunks {
-            if let Some(&[high, low]) = source.get(at..at + 2) {
-                let size = usize::from(u16::from_be_bytes([high, low]));
-                mend_crc(source, at, at + size, u16::to_be_bytes);
-            }
-        }
-    }
-}
-
-/// Writes the CRC of `from..to` behind it, where the source holds it.
-fn mend_crc(source: &mut [u8], from: usize, to: usize, order: fn(u16) -> [u8; 2]) {
-    if from <= to && to + 2 <= source.len() {
-        let crc = crc8(SEED, &source[from..to]);
-        put(source, to, &order(crc));
-    }
-}
-
-fn mend_record(source: &mut [u8], at: usize) {
-    let Some(&[a, b, c, d]) = source.get(at..at + 4) else {
-        return;
-    };
-    let (low, high) = (u16::from_le_bytes([a, b]), u16::from_le_bytes([c, d]));
-    let first = usize::from(low & 0x7fff);
-    let (words, size) = if low < 0x8000 {
-        (2, first)
-    } else {
-        (4, first | usize::from(high) << 15)
-    };
-    mend_crc(source, at, at + words + size, u16::to_le_bytes);
 }

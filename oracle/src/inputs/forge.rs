@@ -1,87 +1,41 @@
 //! Forged states, for `W`: fields around every bound of `fit` and of
 //! `consistent`, whatever a walk could reach.
 
+use super::forge_header::{Bounds, bounds};
+use super::record::Opening;
 use super::rng::Rng;
-use crate::streaming::door::{Header, Locator, State};
+use crate::streaming::door::{Header, State};
 
-/// What the bounds of a state depend on.
-struct Bounds {
-    sections: [u64; 2],
-    map_from: u64,
-    map_end: u64,
-    header_end: u64,
-    length: u64,
+/// Plain choices, but for one of them: that one is at a bound or past it. So
+/// a state is wrong in one way at most, and each bound has its say.
+struct Choices<'a> {
+    rng: &'a mut Rng,
+    /// Which choice is the one at a bound.
+    edge: usize,
+    made: usize,
 }
 
-fn bounds(header: &Header) -> Bounds {
-    let counted = &header.locators[..usize::from(header.count.min(6))];
-    let unit = |number: u8| {
-        let found = counted.iter().find(|l| l.number == number);
-        found.copied().unwrap_or_default()
-    };
-    let map = unit(2);
-    Bounds {
-        sections: [unit(0).size.into(), unit(1).size.into()],
-        map_from: map.offset.into(),
-        map_end: u64::from(map.offset) + u64::from(map.size),
-        header_end: 43 + 9 * u64::from(header.count),
-        length: header.length,
+impl Choices<'_> {
+    fn choose<T: Copy>(&mut self, plain: T, edges: &[T]) -> T {
+        self.made += 1;
+        if self.made == self.edge {
+            self.rng.pick(edges)
+        } else {
+            plain
+        }
     }
-}
 
-/// A header whose units lie anywhere, with a map that has room for chunks.
-pub fn header(rng: &mut Rng) -> Header {
-    let length = match rng.below(8) {
-        0 => rng.pick(&[u64::MAX, u64::MAX - 1, 1 << 63, (1 << 63) + 1]),
-        1..4 => rng.pick(&[1 << 33, 1 << 34, 1 << 40]),
-        _ => rng.between(200, 60_000) as u64,
-    };
-    let mut locators = [Locator::default(); 6];
-    for l in &mut locators {
-        l.number = rng.pick(&[3, 4, 5, 200]);
-        (l.offset, l.size) = (rng.next() as u32, rng.next() as u32);
+    /// A number from `low` to `high` where there is one, else `low`.
+    fn within(&mut self, low: u64, high: u64) -> u64 {
+        let span = high.saturating_sub(low).saturating_add(1);
+        low + self.rng.next() % span
     }
-    for number in 0..3 {
-        let size = unit_size(rng, number, length);
-        let last = (length - u64::from(size)).min(u32::MAX.into()) as usize;
-        let offset = if rng.one_in(4) { last } else { rng.between(0, last) };
-        locators[usize::from(number)] = Locator {
-            number,
-            offset: offset as u32,
-            size,
-        };
-    }
-    Header {
-        magic: rng.pick(&[*b"AC1014", *b"AC1015", *b"AC1012", *b"AC1099"]),
-        count: rng.pick(&[3, 3, 3, 4, 5, 6, 6]),
-        locators,
-        length,
-    }
-}
 
-fn unit_size(rng: &mut Rng, number: u8, length: u64) -> u32 {
-    let most = length.min(u32::MAX.into()) as usize;
-    let size = match (number, rng.below(6)) {
-        (2, 0) => rng.between(0, 12),
-        (2, 1..5) => rng.between(4, 5000),
-        (2, _) => most,
-        (_, 0) => rng.pick(&[37, 38, 39]),
-        (_, 1) => most,
-        _ => rng.between(38, 120),
-    };
-    size.min(most) as u32
-}
-
-/// Changes a header so that Start may refuse it, or a unit be missing.
-pub fn disturb_header(header: &mut Header, rng: &mut Rng) {
-    let n = rng.below(3);
-    let reach = u64::from(header.locators[n].offset) + u64::from(header.locators[n].size);
-    match rng.below(5) {
-        0 => header.count = rng.pick(&[7, 8, 255]),
-        1 => header.count = rng.pick(&[0, 1, 2]),
-        2 => header.length = reach.saturating_sub(1),
-        3 => header.length = reach,
-        _ => header.locators[n].number = rng.pick(&[0, 1, 2, 3, 255]),
+    /// A number, at times close to the highest that it may be.
+    fn up_to(&mut self, top: u64) -> u64 {
+        let below = self.rng.next() % 300;
+        let plain = self.rng.wide(40);
+        self.rng.pick(&[top, top - below, plain, plain])
     }
 }
 
@@ -107,15 +61,17 @@ fn blank(stage: u8, rng: &mut Rng) -> State {
     }
 }
 
-/// A state at or next to the bounds that this header sets.
+/// A state that fits this header but for one bound, if for any.
 pub fn state(rng: &mut Rng, header: &Header) -> State {
     let b = bounds(header);
-    match rng.below(16) {
-        0..2 => section(1, b.sections[0], rng),
-        2..4 => section(2, b.sections[1], rng),
-        4..7 => chunk(&b, rng),
-        7..10 => entry(&b, rng),
-        10..15 => object(&b, rng),
+    let (stage, edge) = (rng.below(16), rng.below(18));
+    let mut c = Choices { rng, edge, made: 0 };
+    match stage {
+        0..2 => section(1, b.sections[0], &mut c),
+        2..4 => section(2, b.sections[1], &mut c),
+        4..6 => chunk(&b, &mut c),
+        6..9 => entry(&b, &mut c),
+        9..15 => object(&b, &mut c),
         _ => State {
             done: rng.next() as u32,
             chunk: rng.next(),
@@ -125,171 +81,258 @@ pub fn state(rng: &mut Rng, header: &Header) -> State {
     }
 }
 
-fn section(stage: u8, total: u64, rng: &mut Rng) -> State {
+/// Outside the visits to entries nothing of an entry or an object is held.
+/// Changes one such field, where the choice at the bound is this one.
+fn leave_something(s: &mut State, c: &mut Choices) {
+    match c.choose(0, &[1, 2, 3, 4, 5, 6, 7, 8, 9, 10, 11]) {
+        0 => (),
+        1 => s.object = 1,
+        2 => s.ms_len = 2,
+        3 => s.words = 1,
+        4 => s.head[c.rng.below(16)] = 1,
+        5 => s.len = 3,
+        6 => s.at = 1,
+        7 => s.handle = 1,
+        8 => s.loc = 1,
+        9 => s.mc = 1,
+        10 => s.shift = 7,
+        _ => s.map_field = 1,
+    }
+}
+
+fn section(stage: u8, total: u64, c: &mut Choices) -> State {
     let size = (total as u32).wrapping_sub(38);
-    let behind = rng.pick(&[0, 1, 2, 15, 16, 17, 18]);
-    let done = match rng.below(5) {
-        0..2 => rng.between(0, 21) as u32,
-        2 => size.wrapping_add(19),
-        _ => size.wrapping_add(20 + behind),
-    };
-    State {
+    let (total, crc) = (total as u32, size.wrapping_add(20));
+    let plain = c.within(0, u64::from(total).saturating_sub(1)) as u32;
+    let done = c.choose(plain, &[0, 15, 16, 19, 20, crc, crc.wrapping_add(2)]);
+    let done = c.choose(done, &[total, total.wrapping_sub(1), total.wrapping_add(1)]);
+    let settled = if done < 20 { 0 } else { size };
+    let more = settled.wrapping_add(1);
+    let mut state = State {
         done,
-        size: if done < 20 { 0 } else { size },
-        ..blank(stage, rng)
-    }
+        size: c.choose(settled, &[0, size, more, settled.wrapping_sub(1)]),
+        ..blank(stage, c.rng)
+    };
+    state.chunk = c.choose(0, &[1, u64::MAX]);
+    leave_something(&mut state, c);
+    state
 }
 
-/// A chunk's place: at the map's ends, or in it.
-fn chunk_place(b: &Bounds, rng: &mut Rng) -> u64 {
-    let before = rng.between(2, 40) as u64;
-    let top = rng.next() % 8;
-    match rng.below(8) {
-        0..4 => b.map_from.wrapping_add(rng.pick(&[0, 0, 0, 1, before])),
-        4..6 => b.map_end.wrapping_sub(rng.pick(&[3, 4, 5, 6, 7, before])),
-        6 => b.map_from.wrapping_sub(1),
-        _ => u64::MAX - top,
-    }
+/// A chunk's place: in the map, at its ends, at the top.
+fn chunk_place(b: &Bounds, c: &mut Choices) -> u64 {
+    let (from, end) = (b.map_from, b.map_end);
+    let inside = c.within(from, end.saturating_sub(60).max(from));
+    let edges = [
+        from,
+        from.wrapping_sub(1),
+        end.wrapping_sub(3),
+        end.wrapping_sub(4),
+        end.wrapping_sub(5),
+        u64::MAX - c.rng.next() % 8,
+    ];
+    c.choose(inside, &edges)
 }
 
-/// A chunk's size: at its bounds, or up to the map's end.
-fn chunk_size(b: &Bounds, place: u64, rng: &mut Rng) -> u32 {
-    let to_end = b.map_end.wrapping_sub(place).wrapping_sub(2) as u32;
-    match rng.below(4) {
-        0 => rng.pick(&[0, 1, 2, 3, 2033, 2034, 2035]),
-        1 => rng.pick(&[to_end, to_end.wrapping_add(1), to_end.wrapping_sub(1)]),
-        _ => rng.between(2, 40) as u32,
-    }
+/// A chunk's size: up to the map's end, or at its bounds.
+fn chunk_size(b: &Bounds, place: u64, c: &mut Choices) -> u32 {
+    let to_end = b.map_end.wrapping_sub(place).wrapping_sub(2);
+    let most = to_end.min(c.rng.pick(&[12, 50, 2034]));
+    let plain = c.within(3, most) as u32;
+    let end = to_end as u32;
+    c.choose(plain, &[0, 1, 2, 3, 2034, 2035, end, end.wrapping_add(1)])
 }
 
-fn chunk(b: &Bounds, rng: &mut Rng) -> State {
-    let chunk = chunk_place(b, rng);
-    let size = chunk_size(b, chunk, rng);
+fn chunk(b: &Bounds, c: &mut Choices) -> State {
+    let chunk = chunk_place(b, c);
+    let size = chunk_size(b, chunk, c);
     let last = size.wrapping_add(1);
-    let done = rng.pick(&[0, 1, 2, 3, size.wrapping_sub(1), size, last, last.wrapping_add(1)]);
-    State {
+    let plain = c.within(0, last.into()) as u32;
+    let done = c.choose(plain, &[0, 1, 2, size, last, last.wrapping_add(1)]);
+    let settled = if done < 2 { 0 } else { size };
+    let mut state = State {
         chunk,
         done,
-        size: if done < 2 { 0 } else { size },
-        ..blank(3, rng)
-    }
+        size: c.choose(settled, &[0, 1, size, 2, 2034, 2035]),
+        ..blank(3, c.rng)
+    };
+    leave_something(&mut state, c);
+    state
 }
 
-fn number_at_the_top(rng: &mut Rng, top: u64) -> u64 {
-    let below = rng.next() % 300;
-    match rng.below(4) {
-        0 => top,
-        1 => top - below,
-        _ => rng.wide(40),
-    }
-}
-
-fn entry(b: &Bounds, rng: &mut Rng) -> State {
-    let chunk = chunk_place(b, rng);
-    let len = chunk_size(b, chunk, rng);
-    let behind = rng.pick(&[1, 2, 2, 3, len.wrapping_sub(2), len.wrapping_sub(1), len]);
-    let shift = 7 * rng.below(10) as u8;
+fn entry(b: &Bounds, c: &mut Choices) -> State {
+    let chunk = chunk_place(b, c);
+    let len = chunk_size(b, chunk, c);
+    let last = u64::from(len).wrapping_sub(1);
+    let plain = c.within(2, last);
+    let behind = c.choose(plain, &[1, 2, last, len.into()]);
+    let shift = 7 * c.rng.below(10) as u8;
+    let (held, anything) = (c.rng.wide(shift.into()), c.rng.next());
+    let top = (1 << 63) - 1;
+    let loc = c.up_to(top);
     State {
         chunk,
         len,
-        at: chunk.wrapping_add(behind.into()),
-        handle: number_at_the_top(rng, u64::MAX),
-        loc: number_at_the_top(rng, (1 << 63) - 1),
-        mc: if shift == 0 { 0 } else { rng.wide(shift.into()) },
-        shift,
-        map_field: rng.byte() % 2,
-        head: rng.array(),
-        object: rng.next(),
-        done: rng.next() as u32,
-        ..blank(4, rng)
+        at: chunk.wrapping_add(behind),
+        handle: c.up_to(u64::MAX),
+        loc: c.choose(loc, &[top, top + 1, u64::MAX]),
+        mc: c.choose(held, &[anything]),
+        shift: c.choose(shift, &[1, 56, 57, 62, 63, 64, 70, 126, 255]),
+        map_field: c.choose(shift % 2, &[0, 1, 2, 255]),
+        head: c.rng.array(),
+        object: anything,
+        done: anything as u32,
+        ..blank(4, c.rng)
     }
 }
 
-/// An object's place: at the header's end, around the map, at the source's
-/// end.
-fn object_place(b: &Bounds, rng: &mut Rng) -> u64 {
-    let away = rng.next() % 60;
-    match rng.below(8) {
-        0 => b.header_end.wrapping_add(rng.pick(&[0, 1, u64::MAX])),
-        1..3 => b.map_from.wrapping_sub(rng.pick(&[0, 1, 2, away])),
-        3..5 => b.map_end.wrapping_add(rng.pick(&[0, 1, away, u64::MAX])),
-        5 => b.length.wrapping_sub(rng.pick(&[1, 2, 3, away])),
-        6 => (1u64 << 63).wrapping_sub(rng.pick(&[0, 1, 2, away])),
-        _ => b.header_end.wrapping_add(away),
-    }
+/// An object's place: before or behind the map, or at a bound.
+fn object_place(b: &Bounds, c: &mut Choices) -> u64 {
+    let before = c.within(b.header_end, b.map_from.saturating_sub(30));
+    let behind = c.within(b.map_end, b.length.saturating_sub(30).min(1 << 62));
+    let room_before = b.map_from >= b.header_end + 30;
+    let room_behind = b.map_end + 30 <= b.length;
+    let first = room_before && (c.rng.one_in(2) || !room_behind);
+    let edges = [
+        b.header_end,
+        b.header_end - 1,
+        b.map_from.wrapping_sub(1),
+        b.map_from,
+        b.map_end,
+        b.map_end.wrapping_sub(1),
+        b.length.wrapping_sub(1),
+        b.length.wrapping_sub(2),
+        (1 << 63) - 1,
+        1 << 63,
+    ];
+    c.choose(if first { before } else { behind }, &edges)
 }
 
 /// A size at the bounds of its words, or up to the next wall.
-fn object_size(b: &Bounds, at: u64, words: u8, rng: &mut Rng) -> u32 {
-    let wall = if at < b.map_from { b.map_from } else { b.length };
+fn object_size(b: &Bounds, at: u64, words: u8, c: &mut Choices) -> u32 {
+    let wall = if at < b.map_from {
+        b.map_from
+    } else {
+        b.length
+    };
     let behind = 2 * u64::from(words) + 2;
-    let to_wall = wall.wrapping_sub(at).wrapping_sub(behind) as u32;
-    match rng.below(5) {
-        0 => rng.pick(&[to_wall, to_wall.wrapping_add(1), to_wall.wrapping_sub(1)]),
-        1 if words < 2 => rng.pick(&[0, 1, 32_767, 32_768]),
-        1 => rng.pick(&[1, 32_768, (1 << 30) - 1, 1 << 30, u32::MAX]),
-        _ => rng.between(1, 24) as u32,
+    let to_wall = wall.wrapping_sub(at).wrapping_sub(behind);
+    let plain = c.within(1, to_wall.min(20)) as u32;
+    let end = to_wall as u32;
+    let most = if words < 2 {
+        (1 << 15) - 1
+    } else {
+        (1 << 30) - 1
+    };
+    match words {
+        0 => c.choose(0, &[1]),
+        _ => c.choose(
+            plain,
+            &[0, 1, end, end.wrapping_add(1), most, most + 1, u32::MAX],
+        ),
     }
 }
 
-fn object(b: &Bounds, rng: &mut Rng) -> State {
-    let from = entry(b, rng);
-    let object = object_place(b, rng);
-    let (words, ms_len) = rng.pick(&[(0, 0), (1, 0), (1, 2), (1, 2), (2, 4), (2, 4)]);
-    let size = match words {
-        0 => 0,
-        _ => object_size(b, object, words, rng),
-    };
+/// How far an object has come: anywhere, or at the ends of its parts.
+fn object_done(words: u8, ms_len: u8, size: u32, c: &mut Choices) -> u32 {
     let begin = 2 * u32::from(words);
+    let before = begin.wrapping_sub(1);
+    if ms_len == 0 {
+        let plain = begin + c.rng.pick(&[0, 1]);
+        return c.choose(plain, &[before, begin + 2]);
+    }
     let end = begin.wrapping_add(size);
-    let done = if ms_len == 0 {
-        begin + rng.pick(&[0, 0, 1, 1, 2])
-    } else {
-        let last = end.wrapping_add(1);
-        rng.pick(&[begin - 1, begin, begin, end.wrapping_sub(1), end, last, last.wrapping_add(1)])
-    };
+    let last = end.wrapping_add(1);
+    let plain = c.within(begin.into(), last.into()) as u32;
+    c.choose(plain, &[before, begin, end, last, last.wrapping_add(1)])
+}
+
+/// A head that gives this handle.
+fn head(b: &Bounds, handle: u64, rng: &mut Rng) -> [u8; 16] {
+    let opening = Opening::random(rng, b.r2000, handle).bytes(rng);
+    let mut head = rng.array();
+    head[..opening.len()].copy_from_slice(&opening);
+    head
+}
+
+fn object(b: &Bounds, c: &mut Choices) -> State {
+    let chunk = chunk_place(b, c);
+    let len = chunk_size(b, chunk, c);
+    let plain = c.within(3, len.into());
+    let behind = c.choose(plain, &[2, 3, len.into(), u64::from(len) + 1]);
+    let object = object_place(b, c);
+    let (words, ms_len) = c
+        .rng
+        .pick(&[(0, 0), (1, 0), (1, 2), (1, 2), (2, 4), (2, 4)]);
+    let size = object_size(b, object, words, c);
+    let done = object_done(words, ms_len, size, c);
+    let edges = [(1, 4), (2, 2), (2, 0), (3, 6), (1, 3), (0, 2), (255, 254)];
+    let (words, ms_len) = c.choose((words, ms_len), &edges);
+    let handle = c.up_to(u64::MAX);
     State {
-        stage: 5,
-        at: from.at.wrapping_add(rng.pick(&[0, 1, 1])),
-        loc: object,
-        mc: 0,
-        shift: 0,
-        map_field: 0,
+        chunk,
+        len,
+        at: chunk.wrapping_add(behind),
+        handle,
         object,
+        loc: c.choose(object, &[0, object ^ 1]),
+        mc: c.choose(0, &[1, u64::MAX]),
+        shift: c.choose(0, &[7, 56, 63]),
+        map_field: c.choose(0, &[1, 2]),
         words,
         ms_len,
         size,
         done,
-        ..from
+        head: head(b, handle, c.rng),
+        ..blank(5, c.rng)
     }
+}
+
+/// A place next to some bound.
+fn near(s: &State, b: &Bounds, rng: &mut Rng) -> u64 {
+    let (from, end) = (b.map_from, b.map_end);
+    let bounds = [
+        0,
+        from,
+        end,
+        b.header_end,
+        b.length,
+        1 << 63,
+        s.chunk,
+        s.loc,
+    ];
+    let (bound, away) = (rng.pick(&bounds), rng.next() % 4);
+    rng.pick(&[bound.wrapping_add(away), bound.wrapping_sub(away)])
+}
+
+/// A number of bytes next to some bound.
+fn nearly(s: &State, rng: &mut Rng) -> u32 {
+    let bounds = [s.done, s.size, s.len, 0, 3, 20, 38, 2034, 32_767, 1 << 30];
+    let n = rng.pick(&bounds);
+    rng.pick(&[n, n.wrapping_add(1), n.wrapping_sub(1), u32::MAX])
 }
 
 /// Changes one field to a number that is next to some bound, or to anything.
 pub fn disturb(s: &mut State, rng: &mut Rng, header: &Header) {
-    let b = bounds(header);
-    let wide = rng.next() % 4;
-    let near = rng.pick(&[0, b.map_from, b.map_end, b.header_end, b.length, 1 << 63, s.chunk, s.loc]);
-    let near = rng.pick(&[near.wrapping_add(wide), near.wrapping_sub(wide)]);
-    let narrow = rng.pick(&[s.done, s.size, s.len, 0, 3, 20, 38, 2034, 32_767, 1 << 30]);
-    let narrow = rng.pick(&[narrow.wrapping_add(1), narrow.wrapping_sub(1), narrow, u32::MAX]);
+    let place = near(s, &bounds(header), rng);
+    let number = nearly(s, rng);
     let small = rng.pick(&[0, 1, 2, 3, 4, 5, 6, 7, 255]);
     match rng.below(17) {
         0 => s.stage = rng.between(1, 6) as u8,
-        1 => s.done = narrow,
-        2 => s.size = narrow,
+        1 => s.done = number,
+        2 => s.size = number,
         3 => s.crc = rng.next() as u16,
         4 => s.head = rng.array(),
-        5 => s.object = near,
+        5 => s.object = place,
         6 => s.ms_len = small,
         7 => s.words = small,
-        8 => s.chunk = near,
-        9 => s.len = narrow,
-        10 => s.at = near,
-        11 => s.handle = near,
-        12 => s.loc = near,
+        8 => s.chunk = place,
+        9 => s.len = number,
+        10 => s.at = place,
+        11 => s.handle = place,
+        12 => s.loc = place,
         13 => s.mc = rng.next(),
         14 => s.shift = rng.pick(&[7, 49, 55, 56, 57, 62, 63, 64, 70, 126, 255]),
         15 => s.map_field = rng.pick(&[0, 1, 2, 255]),
-        _ => (s.object, s.loc) = (near, near),
+        _ => (s.object, s.loc) = (place, place),
     }
 }

@@ -45,7 +45,11 @@ fn section_data(rng: &mut Rng, scale: Scale) -> Vec<u8> {
         Scale::Middle => 120,
         Scale::Large => 6000,
     };
-    let n = if rng.one_in(3) { 0 } else { rng.between(1, most) };
+    let n = if rng.one_in(3) {
+        0
+    } else {
+        rng.between(1, most)
+    };
     rng.bytes(n)
 }
 
@@ -96,14 +100,15 @@ impl Plan {
         plan
     }
 
-    /// A chunk that is full, 2,034 bytes: 1,015 entries for one record.
+    /// A chunk that is full: 1,015 entries for one record, of size 2,034 or
+    /// next to it.
     pub fn full_chunk(rng: &mut Rng) -> Self {
         let mut plan = Self::random(rng, Scale::Small);
         plan.chunks.clear();
         plan.records.clear();
         plan.map_last = true;
         let record = plan.add_record(rng, 7);
-        let widths = rng.pick(&[[1, 3], [2, 2]]);
+        let widths = rng.pick(&[[1, 3], [2, 2], [1, 2], [2, 3], [1, 4]]);
         let first = Entry {
             step: 7,
             target: Target::Record(record),

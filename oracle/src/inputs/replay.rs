@@ -2,7 +2,7 @@
 //! calls in between, forged states, and calls after the end.
 
 use super::rng::Rng;
-use super::{coax, drive, forge};
+use super::{coax, drive, forge, forge_header};
 use crate::calls::{Call, push_call};
 use crate::form::LIMIT;
 use crate::replay::{Hand, Judge};
@@ -85,21 +85,37 @@ pub fn input(rng: &mut Rng) -> Vec<u8> {
         bytes: Vec::new(),
         judge: Judge::new(),
     };
-    let full = rng.pick(&[300, 1500, 1500, 4000, 4000, 12_000]);
     script.disturbances(rng, 2);
-    while script.bytes.len() < full {
-        match rng.below(8) {
-            0..3 => walk_drawing(&mut script, rng),
-            3 => odd_start(&mut script, rng),
-            4 => reached_state(&mut script, rng),
-            _ => forged_state(&mut script, rng),
-        }
+    if rng.one_in(4) {
+        checked_states(&mut script, rng);
+    } else {
+        episodes(&mut script, rng);
     }
     let mut bytes = script.bytes;
     if rng.one_in(30) {
         spoil(&mut bytes, rng);
     }
     bytes
+}
+
+/// Walks and states of every kind, one after another.
+fn episodes(script: &mut Script, rng: &mut Rng) {
+    let full = rng.pick(&[300, 1500, 1500, 4000, 4000, 12_000]);
+    while script.bytes.len() < full {
+        match rng.below(8) {
+            0..3 => walk_drawing(script, rng),
+            3 => odd_start(script, rng),
+            4 => reached_state(script, rng),
+            _ => forged_state(script, rng),
+        }
+    }
+}
+
+/// Nothing but forged states and the two checks: many bounds in one file.
+fn checked_states(script: &mut Script, rng: &mut Rng) {
+    while script.bytes.len() < 12_000 {
+        checked_state(script, rng);
+    }
 }
 
 /// How many bytes of a demand one call is given.
@@ -164,9 +180,9 @@ fn walk_drawing(script: &mut Script, rng: &mut Rng) {
 
 /// Headers that Start refuses or that begin with a failure.
 fn odd_start(script: &mut Script, rng: &mut Rng) {
-    let mut header = forge::header(rng);
+    let mut header = forge_header::header(rng);
     if !rng.one_in(4) {
-        forge::disturb_header(&mut header, rng);
+        forge_header::disturb_header(&mut header, rng);
     }
     script.call(Call::Start(header));
     script.disturbances(rng, 5);
@@ -199,18 +215,24 @@ fn reached_state(script: &mut Script, rng: &mut Rng) {
     }
 }
 
-fn forged_state(script: &mut Script, rng: &mut Rng) {
-    let mut header = forge::header(rng);
+/// A forged state, and what the two checks say of it.
+fn checked_state(script: &mut Script, rng: &mut Rng) -> Header {
+    let mut header = forge_header::header(rng);
     if rng.one_in(10) {
-        forge::disturb_header(&mut header, rng);
+        forge_header::disturb_header(&mut header, rng);
     }
     let mut state = forge::state(rng, &header);
-    for _ in 0..rng.pick(&[0, 0, 0, 1, 2]) {
+    for _ in 0..rng.pick(&[0, 0, 0, 0, 1, 2]) {
         forge::disturb(&mut state, rng, &header);
     }
     script.call(Call::Take(header, state));
     script.call(Call::Consistent);
     script.call(Call::Fit);
+    header
+}
+
+fn forged_state(script: &mut Script, rng: &mut Rng) {
+    let header = checked_state(script, rng);
     script.disturbances(rng, 3);
     go_on(script, rng, &header);
 }

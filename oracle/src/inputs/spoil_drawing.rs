@@ -9,12 +9,17 @@ use crate::streaming::door::Locator;
 /// The place of the locator that counts for this number.
 fn locator(drawing: &mut Drawing, number: u8) -> &mut Locator {
     let mut list = drawing.case.locators.iter_mut();
-    list.find(|l| l.number == number).expect("a drawing has its three units")
+    list.find(|l| l.number == number)
+        .expect("a drawing has its three units")
 }
 
 /// Takes a locator away, or its number. Another of its number then counts.
 fn lose_locator(drawing: &mut Drawing, rng: &mut Rng, number: u8) {
-    let away = drawing.case.locators.iter().position(|l| l.number == number);
+    let away = drawing
+        .case
+        .locators
+        .iter()
+        .position(|l| l.number == number);
     let away = away.expect("a drawing has its three units");
     if rng.one_in(2) {
         drawing.case.locators.remove(away);
@@ -89,7 +94,9 @@ pub fn section_crc(drawing: &mut Drawing, rng: &mut Rng) {
 pub fn chunk(drawing: &mut Drawing, rng: &mut Rng) {
     let number = rng.below(drawing.chunks.len());
     let at = drawing.chunks[number];
-    let size = rng.pick(&[0, 1, 2, 2035, 2036, 0x7fff, 0xffff, 2034]);
+    let map_end = drawing.units[2].offset + drawing.units[2].size;
+    let to_end = (map_end - at as u32) as u16;
+    let size = rng.pick(&[0, 1, 2, 2034, 2035, 0xffff, to_end, to_end - 1, to_end - 2]);
     match rng.below(6) {
         0 => locator(drawing, 2).size = rng.below(4) as u32,
         1 => locator(drawing, 2).size -= 4,
@@ -152,6 +159,6 @@ pub fn span(drawing: &mut Drawing, rng: &mut Rng) {
     let bytes = size_words(size as u32, two);
     if bytes.len() == words {
         drawing.case.source[at..at + words].copy_from_slice(&bytes);
-        drawing.mend();
+        drawing.mend_sections();
     }
 }

@@ -40,7 +40,11 @@ pub fn entry(plan: &mut Plan, rng: &mut Rng) {
         1 => handles_too_high(plan, rng),
         kind => {
             plan.cut_short.resize(plan.chunks.len(), 0);
-            plan.cut_short[chunk] = if kind == 2 { rng.between(1, 4) } else { usize::MAX };
+            plan.cut_short[chunk] = if kind == 2 {
+                rng.between(1, 4)
+            } else {
+                usize::MAX
+            };
         }
     }
 }
