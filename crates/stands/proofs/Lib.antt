@@ -1,1 +1,3 @@
 pub mod Bare
+pub mod Landing
+pub mod Deltas
