@@ -1,3 +1,5 @@
 pub mod Bare
 pub mod Landing
+pub mod ObjectDemands
+pub mod Objects
 pub mod Deltas
