@@ -29,7 +29,7 @@ use Rattle.account.specs.Statement.{part}
 use Rattle.account.proofs.Demands.{one-add}
 use Rattle.account.proofs.Parts.{part-cons}
 use Rattle.account.proofs.Walks.{alone, Phase, On, lands-go, steps-on}
-use Rattle.rules.specs.Entry.{before, groupsOf, deltaIn, handleDelta, magnitude, isBack, signed, moved}
+use Rattle.rules.specs.Entry.{before, groupsOf, deltaIn, handleDelta, magnitude, isBack, Delta, ahead, back, signed, moved}
 use Rattle.rules.proofs.Entry.{Short, groups-short}
 use Rattle.entry.specs.Entry.{requestEntry, bitsOf, movedBy, settleLocation, settleHandle, moreGroups, settleGroup, feedEntry}
 use Rattle.flat.specs.Flat.{requestAt, feedAt}
@@ -226,3 +226,13 @@ moved-alike true location (suc n) h = split (ltb location (suc n)) refl
         → (if leb (suc n) location then some (location - suc n) else none) ≡ (if ltb location (suc n) then none else some (location - suc n))
     split true e = rw (e, lt-leb (suc n) location (ltb-true location (suc n) e))
     split false e = rw (e, le-leb (suc n) location (ltb-false location (suc n) e))
+
+-- and stays below 2^63
+abbrev pub Near : Option ℕ → Type 0
+Near none = Unit {0}
+Near (some location) = location < 2 ^ 63
+
+pub moved-near : (location : ℕ) (d : Delta) → location < 2 ^ 63 → Near (moved location d)
+unfolding moved
+moved-near location (ahead n) h = in-both Near _ (λ e. ltb-true (location + n) (2 ^ 63) e) (λ e. tt)
+moved-near location (back n) h = in-both Near _ (λ e. tt) (λ e. omega arith)
