@@ -3,3 +3,4 @@ pub mod Landing
 pub mod ObjectDemands
 pub mod Objects
 pub mod Deltas
+pub mod Entries
