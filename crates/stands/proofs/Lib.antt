@@ -4,3 +4,4 @@ pub mod ObjectDemands
 pub mod Objects
 pub mod Deltas
 pub mod Entries
+pub mod Chunks
