@@ -12,15 +12,17 @@ use Rattle.crc.specs.Crc.{crcOf}
 use Rattle.crc.proofs.Laws.{crc-append}
 use Rattle.octets.proofs.Sets.{take-sets}
 use Rattle.streaming.specs.Choose.{if_then_else_}
-use Rattle.streaming.specs.State.{fell}
+use Rattle.streaming.specs.State.{failing, fell}
 use Rattle.streaming.specs.declared.Fault.{Fault}
 use Rattle.streaming.specs.declared.Answer.{Answer}
 use Rattle.streaming.specs.declared.FlatWalker.{FlatWalker}
 use Rattle.streaming.specs.declared.Fed.{Fed}
+use Rattle.account.specs.Account.{Account, over, broken}
 use Rattle.account.specs.Asking.{Turn, bad}
 use Rattle.account.specs.Statement.{part}
 use Rattle.account.proofs.Parts.{length-part, part-add}
-use Rattle.account.proofs.Walks.{Lands, lands-bad}
+use Rattle.account.proofs.Walks.{On, stop, Lands, lands-bad}
+use Rattle.rules.proofs.Choose.{choose-alike}
 use Rattle.stands.proofs.Bare.{outcome, bare, failing-asks}
 
 -- ---- choices
@@ -34,9 +36,16 @@ eqb-alike a b c d f g = split (eqb a b) refl
     split false e = e ∙ sym (ne-eqb c d (λ q. eqb-false a b e (g q)))
 
 pub outcome-if : (b : Bool) (x y : Fed) → outcome (if b then x else y) ≡ if b then outcome x else outcome y
+outcome-if b x y = choose-alike outcome b (λ e. refl) (λ e. refl)
+
+-- where the last of n bytes does as those before it
+pub if-last : (x : ℕ → Answer × FlatWalker) (k n : ℕ) → x k ≡ if eqb k n then x n else x k
 unfolding if_then_else_
-outcome-if true x y = refl
-outcome-if false x y = refl
+if-last x k n = split (eqb k n) refl
+  where
+    split : (b : Bool) → eqb k n ≡ b → x k ≡ if b then x n else x k
+    split true e = ap x (eqb-true k n e)
+    split false e = refl
 
 -- a test that makes no difference
 pub if-alike : (b : Bool) (x : Answer × FlatWalker) → x ≡ if b then x else x
@@ -68,3 +77,14 @@ module _ (src : List ℕ) where
 
   pub land-fell : (s : FlatWalker) (f : Fault) → Land (fell f s) (bad f)
   land-fell s f = lands-bad bare src (failing-asks s f)
+
+  -- ---- states that are entered
+
+  pub on-if : (b : Bool) {x y : FlatWalker} {a u : Account} → (b ≡ true → On bare src x a) → (b ≡ false → On bare src y u)
+      → On bare src (if b then x else y) (if b then a else u)
+  unfolding if_then_else_
+  on-if true h k = h refl
+  on-if false h k = k refl
+
+  pub on-failing : (s : FlatWalker) (f : Fault) → On bare src (failing s f) (over (broken f))
+  on-failing s f = stop (failing-asks s f) tt

@@ -2,6 +2,8 @@ pub mod Bare
 pub mod Landing
 pub mod ObjectDemands
 pub mod Objects
+pub mod SectionDemands
+pub mod Sections
 pub mod Deltas
 pub mod Entries
 pub mod Chunks

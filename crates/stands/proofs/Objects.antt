@@ -2,7 +2,7 @@
 use Prim.Native.Nat.{ℕ, _+_, _*_, _%_, _^_, min, _≤_, _<_}
 use mathlib.Core.Bool.{Bool, true, false}
 use mathlib.Core.List.{List}
-use mathlib.Core.Path.{_≡_, refl, sym, ap, _∙_}
+use mathlib.Core.Path.{_≡_, refl, ap, _∙_}
 use native.Mathlib.Omega.{arith}
 use native.Mathlib.Nat.{add-zero}
 use lib.ListN.{length, take, length-take}
@@ -43,8 +43,11 @@ words-at : (src : List ℕ) (location : ℕ) → location + 2 ≤ length src
 unfolding sizeAt
 words-at src location h =
     let n : length (part src location 2) ≡ 2 = length-part src location 2 (omega arith) in
-    rw (← part-add src location 2 2, take-at (part src location 2) (part src (location + 2) 2) 2 n,
-    drop-at (part src location 2) (part src (location + 2) 2) 2 n)
+    rw (
+      ← part-add src location 2 2,
+      take-at (part src location 2) (part src (location + 2) 2) 2 n,
+      drop-at (part src location 2) (part src (location + 2) 2) 2 n,
+    )
 
 -- the first bytes of the data
 head-at : (src h : List ℕ) (at z : ℕ) → at + z ≤ length src → length h ≡ 16
@@ -139,7 +142,7 @@ module _ (src : List ℕ) (s : FlatWalker) (location : ℕ) (sound : s .failure 
       split true t =
           let l : w < 0x8000 = ltb-true w 0x8000 t in
           let z : bitOr (v % 0x8000) (w % 0x8000 * 2 ^ 15) ≡ v % 0x8000 + 0x8000 * w =
-              or-shifted-r (w % 0x8000) 15 (v % 0x8000) (omega arith) ∙ omega arith in
+          or-shifted-r (w % 0x8000) 15 (v % 0x8000) (omega arith) ∙ omega arith in
           rw z (sized-lands d (v % 0x8000) c f h 1 4 (v % 0x8000 + 0x8000 * w) field (omega arith) n m)
       split false t = land-fell src (inside d (v % 0x8000) c f h 0 1) (fault.ObjectSize handle)
 
