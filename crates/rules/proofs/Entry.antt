@@ -15,7 +15,7 @@ abbrev pub Short : (room : ℕ) → Option (List ℕ) → Type 0
 Short room none = Unit {0}
 Short room (some groups) = (1 ≤ length groups) × (length groups ≤ room)
 
-groups-short : (bytes : List ℕ) → Short (length bytes) (groupsOf bytes)
+pub groups-short : (bytes : List ℕ) → Short (length bytes) (groupsOf bytes)
 unfolding groupsOf
 groups-short [] = tt
 groups-short (b ∷ bs) = in-both (Short (suc (length bs))) _ (λ e. (omega arith, omega arith)) (λ e. longer (groupsOf bs) (groups-short bs))
