@@ -81,7 +81,6 @@ module _ (src : List ℕ) (chunk len : ℕ) (inside : chunk + len ≤ length src
         → (done size crc msLen words : ℕ) (field head : List ℕ) → length field ≡ 4 → length head ≡ 16
         → On bare src (leaveObject (inObject (withMap s (atEntry chunk len (at + m) handle location 0 0 0)) location done size crc field head msLen words))
         (askEntries (s .header) src (more m handle location) (at + m) next)) where
-
       -- the location delta, behind m bytes of handle delta
       module _ (m handle′ : ℕ) (low : 1 ≤ m) (high : m < n)
           (first : (a : Account) → On bare src (withMap s (atEntry chunk len (at + m) handle′ loc 0 0 1)) a
