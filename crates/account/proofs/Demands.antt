@@ -48,6 +48,11 @@ module _ (src : List ℕ) where
   unfolding oneByOne if_then_else_
   one-cons at m t h = rw (lt-ltb at (length src) h)
 
+  -- one of them alone
+  pub one-span : (at : ℕ) (t : Turn) → oneByOne src at 1 t ≡ span src at 1 framing t
+  unfolding oneByOne span
+  one-span at t = refl
+
   -- some of them, then the others
   pub one-add : (at m n : ℕ) (t : Turn) → 0 < n → oneByOne src at (m + n) t ≡ oneByOne src at m (go framing (oneByOne src (at + m) n t))
   unfolding oneByOne

@@ -1,39 +1,38 @@
 -- The machine goes through the chunks of the map as the rules say: size, entries and checksum, then the entries again, then the next chunk.
-use Prim.Native.Nat.{ℕ, zero, suc, _+_, _-_, _^_, _≤_, _<_}
-use mathlib.Core.Bool.{Bool, true, false, _&&_}
-use mathlib.Core.List.{List, [], _∷_, _++_}
+use Prim.Native.Nat.{ℕ, zero, suc, _+_, _-_, _≤_, _<_}
+use mathlib.Core.Bool.{Bool, true, false}
+use mathlib.Core.List.{List, _++_}
 use mathlib.Core.Path.{_≡_, refl, sym, ap, ap₂, _∙_}
 use native.Mathlib.Omega.{arith}
 use native.Mathlib.Nat.{add-zero, zero-add}
 use lib.ListN.{length, take, length-append}
 use lib.Seq.{sets, length-sets}
-use lib.Dec.{ltb, leb, eqb}
-use borrow.Author.Tests.{leb-true, eqb-true, eqb-false, lt-ltb, le-ltb, lt-leb}
+use lib.Dec.{leb, eqb}
+use borrow.Author.Tests.{eqb-true, eqb-false, lt-ltb, le-ltb, lt-leb}
 use Rattle.crc.specs.Crc.{crcOf}
 use Rattle.crc.proofs.Laws.{crc-append}
 use Rattle.octets.specs.Octets.{bigEndian}
 use Rattle.octets.proofs.Sets.{sets-append}
 use Rattle.streaming.specs.Choose.{if_then_else_}
-use Rattle.streaming.specs.State.{inUnit, withMap, failing}
+use Rattle.streaming.specs.State.{inUnit}
 use Rattle.streaming.specs.declared.Fault.the-variants as fault
 use Rattle.streaming.specs.declared.Asked.the-variants as asked
 use Rattle.streaming.specs.declared.Stage.the-variants as stage
 use Rattle.streaming.specs.declared.Failure.the-variants as failure
-use Rattle.streaming.specs.declared.FlatHeader.{FlatHeader}
 use Rattle.streaming.specs.declared.FlatWalker.{FlatWalker}
-use Rattle.streaming.proofs.Choose.{and-left}
 use Rattle.account.specs.Account.{Account, over, demand, framing}
 use Rattle.account.specs.Asking.{Turn, go, span, passing}
 use Rattle.account.specs.Statement.{part}
 use Rattle.account.proofs.Parts.{length-part}
 use Rattle.account.proofs.Walks.{together, Phase, On, stop, lands-go, phase-on}
 use Rattle.rules.specs.Bytes.{seed, checksum}
-use Rattle.rules.specs.Header.{mapEnd}
+use Rattle.rules.specs.Header.{mapStart, mapSize, mapEnd}
 use Rattle.rules.specs.Map.{chunkSize, chunkComputed, chunkStored, chunkEntries, chunkFits, chunkTurn, chunkCrcTurn, chunkSizeTurn, askChunks}
+use Rattle.rules.proofs.Map.{fits-low}
 use Rattle.chunk.specs.Chunk.{chunkAt, enterChunk, chunkEnd, requestChunk, settleChunkSize, settleChunk, settleChunkCrc}
 use Rattle.chunk.specs.Chunk.{feedChunkSize, feedChunkEntries, feedChunkCrc, feedChunk}
-use Rattle.stands.proofs.Bare.{bareRequest, bareFeed, outcome, bare, failing-asks}
-use Rattle.stands.proofs.Landing.{eqb-alike, outcome-if, if-alike, field-at, crc-at, Land, land-if, land-fell}
+use Rattle.stands.proofs.Bare.{bareRequest, bareFeed, outcome, bare}
+use Rattle.stands.proofs.Landing.{eqb-alike, outcome-if, if-alike, field-at, crc-at, Land, land-if, land-fell, on-if, on-failing}
 use Rattle.stands.proofs.Entries.{entries-on}
 
 -- ---- where its demands end
@@ -79,7 +78,8 @@ module _ (s : FlatWalker) (chunk : ℕ) (sound : s .failure ≡ failure.None) wh
 
   -- z counts the size too
   entries-phase : (z c : ℕ) (f : List ℕ)
-      → Phase bare together (chunk + 2) (z - 2) framing (λ q. within (2 + length q) z (crcOf c q) f) (λ q w. (framing, within (2 + length w) z (crcOf c w) f))
+      → Phase bare together (chunk + 2) (z - 2) framing (λ q. within (2 + length q) z (crcOf c q) f)
+      (λ q w. (framing, within (2 + length w) z (crcOf c w) f))
   unfolding bareFeed feedChunk feedChunkEntries if_then_else_
   entries-phase z c f =
       record {
@@ -111,10 +111,6 @@ module _ (s : FlatWalker) (chunk : ℕ) (sound : s .failure ≡ failure.None) wh
             (outcome-if (eqb (length q + length p) 2) _ _);
       }
 
-fits-least : (h : FlatHeader) (chunk z : ℕ) → chunkFits h chunk z ≡ true → 2 ≤ z
-unfolding chunkFits
-fits-least h chunk z e = leb-true 2 z (and-left (leb 2 z) (leb z 2034) (and-left (leb 2 z && leb z 2034) _ e))
-
 -- ---- one chunk, of z bytes without its checksum
 
 module _ (src : List ℕ) (s : FlatWalker) (chunk : ℕ) (sound : s .failure ≡ failure.None) (z : ℕ) (next : Account)
@@ -133,9 +129,11 @@ module _ (src : List ℕ) (s : FlatWalker) (chunk : ℕ) (sound : s .failure ≡
   whole-lands d c f field n h k =
       let l : length (part src (chunk + 2) (z - 2)) ≡ z - 2 = length-part src (chunk + 2) (z - 2) (omega arith) in
       land-if src (eqb z 2)
-      (λ t. land-if src (eqb (chunk + 4) (mapEnd (s .header))) (λ u. lands-go bare src (stop (done-asks c field) tt)) λ u. land-fell src (inside d z c f) (fault.MapChunk chunk))
+      (λ t. land-if src (eqb (chunk + 4) (mapEnd (s .header))) (λ u. lands-go bare src (stop (done-asks c field) tt))
+      λ u. land-fell src (inside d z c f) (fault.MapChunk chunk))
       λ t. lands-go bare src (entries-on src chunk z k next _ (inUnit (inside d z c f) stage.Entry (z + 2) z c field) refl
-      (record { sound = sound; field = n; head = refl }) (chunk + 2) 0 0 (z - 2) (omega arith) (omega (arith, eqb-false z 2 t)) (omega arith) (omega arith) after)
+      (record { sound = sound; field = n; head = refl }) (chunk + 2) 0 0 (z - 2)
+      (omega arith) (omega (arith, eqb-false z 2 t)) (omega arith) (omega arith) after)
 
   -- what is asked for behind the entries
   abbrev askCrc : Account
@@ -179,23 +177,17 @@ module _ (src : List ℕ) (s : FlatWalker) (chunk : ℕ) (sound : s .failure ≡
   unfolding settleChunkSize chunkSizeTurn
   size-lands d c f field n e =
       land-if src (chunkFits (s .header) chunk z)
-      (λ t. rw e (lands-go bare src (entries-read field (fits-least (s .header) chunk z t) n)))
+      (λ t. rw e (lands-go bare src (entries-read field (fits-low (s .header) chunk z t) n)))
       λ t. land-fell src (inside d 0 c f) (fault.MapChunk chunk)
 
 -- ---- the map
 
-on-if : (src : List ℕ) (b : Bool) {x y : FlatWalker} {a c : Account} → (b ≡ true → On bare src x a) → (b ≡ false → On bare src y c)
-    → On bare src (if b then x else y) (if b then a else c)
-unfolding if_then_else_
-on-if src true f g = f refl
-on-if src false f g = g refl
-
--- The count bounds the recursion alone: it runs out behind the map's end.
-pub chunks-on : (src : List ℕ) (k : ℕ) (s : FlatWalker) (chunk : ℕ) → s .failure ≡ failure.None → length (s .field) ≡ 4 → mapEnd (s .header) ≤ chunk + k
-    → On bare src (enterChunk s chunk) (askChunks (s .header) src k chunk)
+-- From any chunk on. The count bounds the recursion alone: it runs out behind the map's end.
+pub chunks-on : (src : List ℕ) (k : ℕ) (s : FlatWalker) (chunk : ℕ) → s .failure ≡ failure.None → length (s .field) ≡ 4
+    → mapEnd (s .header) ≤ chunk + k → On bare src (enterChunk s chunk) (askChunks (s .header) src k chunk)
 unfolding enterChunk askChunks chunkSize if_then_else_
 chunks-on src zero s chunk sound n h =
-    rw (lt-leb (chunk + 4) (mapEnd (s .header)) (omega arith)) (stop (failing-asks (chunkAt s chunk) (fault.MapChunk chunk)) tt)
+    rw (lt-leb (chunk + 4) (mapEnd (s .header)) (omega arith)) (on-failing src (chunkAt s chunk) (fault.MapChunk chunk))
 chunks-on src (suc k) s chunk sound n h =
     on-if src (leb (chunk + 4) (mapEnd (s .header)))
     (λ e. phase-on bare src (size-phase s chunk sound (s .crc) (s .field)) (omega arith) λ o q.
@@ -204,4 +196,10 @@ chunks-on src (suc k) s chunk sound n h =
     rw x (size-lands src s chunk sound (bigEndian w) _
     (λ crc field m. chunks-on src k (inUnit s stage.Chunk 0 0 crc field) (chunk + bigEndian w + 2) sound m (omega arith))
     (length q) (s .crc) (sets (s .field) 0 q) (sets (s .field) 0 w) (length-sets (s .field) 0 w ∙ n) x))
-    λ e. stop (failing-asks (chunkAt s chunk) (fault.MapChunk chunk)) tt
+    λ e. on-failing src (chunkAt s chunk) (fault.MapChunk chunk)
+
+-- The map's size is enough of a count.
+pub map-on : (src : List ℕ) (s : FlatWalker) → s .failure ≡ failure.None → length (s .field) ≡ 4
+    → On bare src (enterChunk s (mapStart (s .header))) (askChunks (s .header) src (mapSize (s .header)) (mapStart (s .header)))
+unfolding mapEnd
+map-on src s sound n = chunks-on src (mapSize (s .header)) s (mapStart (s .header)) sound n (omega arith)

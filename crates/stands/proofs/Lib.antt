@@ -7,3 +7,4 @@ pub mod Sections
 pub mod Deltas
 pub mod Entries
 pub mod Chunks
+pub mod Walk
