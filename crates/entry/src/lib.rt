@@ -25,6 +25,7 @@ pub enum Moved {
     Nowhere,
 }
 
+// An entry is asked for one byte at a time.
 pub fn request_entry(s: FlatWalker) -> Request
     ensures { λ r. ⌜ r ≡ requestEntry s ⌝ }
 {
