@@ -1,16 +1,23 @@
 // Stage Chunk: a chunk of the object map, its size, its entries and its checksum, before the entries are walked.
 ghost use mathlib.Core.Path.{_≡_};
 ghost use mathlib.Core.Bool.{true};
-ghost use Prim.Native.Nat.{_<_, _^_};
+ghost use Prim.Native.Nat.{_+_, _<_, _≤_, _^_};
+ghost use lib.ListN.{length};
 ghost use Rattle.chunk.specs.Chunk.{enterChunk, requestChunk};
+ghost use Rattle.chunk.specs.Chunk.{feedChunkSize, feedChunkEntries, feedChunkCrc, feedChunk};
 ghost use Rattle.chunk.specs.Fit.{noObject, noEntry, chunkDone, fitChunk, inChunk, FitChunk, InChunk};
+use streaming::Answer;
 use streaming::Failure;
 use streaming::Fault;
+use streaming::Fed;
 use streaming::FlatHeader;
 use streaming::FlatWalker;
 use streaming::MapCursor;
 use streaming::Request;
 use streaming::Stage;
+use streaming::Step;
+
+mod settle;
 
 // The walk at a chunk's first byte. A chunk that can't hold a size and a checksum is a fault, which is told by the next call.
 pub fn enter_chunk(s: FlatWalker, chunk: u64) -> FlatWalker
@@ -71,6 +78,78 @@ pub fn request_chunk(s: FlatWalker) -> Request
         offset: offset,
         len: (s.size + 2 - d) as u64,
     }
+}
+
+// A piece of the size.
+fn feed_chunk_size(s: FlatWalker, piece: &[u8]) -> Fed
+    requires { ⌜ FitChunk s × (s .done + length (now piece) ≤ 2) ⌝ }
+    ensures { λ r. ⌜ r ≡ feedChunkSize s (now (piece .entry)) ⌝ }
+{
+    let mut field = s.field;
+    octets::copy_in(&mut field, s.done as usize, piece);
+    let done = s.done + piece.len() as u32;
+    if done == 2 {
+        return settle::settle_chunk_size(s, field, settle::number_in(field) as u32);
+    }
+    Fed {
+        answer: Answer::Step(Step::Framing),
+        state: FlatWalker {
+            done: done,
+            field: field,
+            ..s
+        },
+    }
+}
+
+// A piece of the entries, which are only summed until the checksum holds.
+fn feed_chunk_entries(s: FlatWalker, piece: &[u8]) -> Fed
+    requires { ⌜ FitChunk s × (s .done + length (now piece) ≤ s .size) ⌝ }
+    ensures { λ r. ⌜ r ≡ feedChunkEntries s (now (piece .entry)) ⌝ }
+{
+    let crc = crc::crc8(s.crc, piece);
+    Fed {
+        answer: Answer::Step(Step::Framing),
+        state: FlatWalker {
+            done: s.done + piece.len() as u32,
+            crc: crc,
+            ..s
+        },
+    }
+}
+
+// A piece of the checksum.
+fn feed_chunk_crc(s: FlatWalker, piece: &[u8]) -> Fed
+    requires { ⌜ FitChunk s × (s .size ≤ s .done) × (s .done + length (now piece) ≤ s .size + 2) ⌝ }
+    ensures { λ r. ⌜ r ≡ feedChunkCrc s (now (piece .entry)) ⌝ }
+{
+    let mut field = s.field;
+    octets::copy_in(&mut field, (s.done - s.size) as usize, piece);
+    let done = s.done + piece.len() as u32;
+    if done == s.size + 2 {
+        return settle::settle_chunk_crc(s, field, settle::number_in(field));
+    }
+    Fed {
+        answer: Answer::Step(Step::Framing),
+        state: FlatWalker {
+            done: done,
+            field: field,
+            ..s
+        },
+    }
+}
+
+// A piece of what is asked for.
+pub fn feed_chunk(s: FlatWalker, piece: &[u8]) -> Fed
+    requires { ⌜ FitChunk s × (length (now piece) ≤ requestChunk s .len) ⌝ }
+    ensures { λ r. ⌜ r ≡ feedChunk s (now (piece .entry)) ⌝ }
+{
+    if s.done < 2 {
+        return feed_chunk_size(s, piece);
+    }
+    if s.done < s.size {
+        return feed_chunk_entries(s, piece);
+    }
+    feed_chunk_crc(s, piece)
 }
 
 // Whether nothing of an object is held.
