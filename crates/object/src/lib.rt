@@ -5,7 +5,7 @@ ghost use lib.ListN.{length, take};
 ghost use lib.Seq.{sets};
 ghost use Rattle.streaming.specs.State.{fell as State·fell};
 ghost use Rattle.rules.specs.Object.{mayStart};
-ghost use Rattle.object.specs.Object.{enterObject, objectEnd, requestObject, feedWord, feedObjectData};
+ghost use Rattle.object.specs.Object.{enterObject, objectEnd, requestObject, feedWord, feedObjectData, feedObjectCrc, feedObject};
 ghost use Rattle.object.specs.Fit.{FitObject};
 use header::header_end;
 use header::map_end;
@@ -23,6 +23,7 @@ use streaming::Step;
 use streaming::StreamError;
 
 pub mod fit;
+mod verdict;
 mod words;
 
 // A fault is answered and held.
@@ -163,4 +164,40 @@ fn feed_object_data(s: FlatWalker, piece: &[u8]) -> Fed
             ..s
         },
     }
+}
+
+// A piece of the checksum.
+fn feed_object_crc(s: FlatWalker, piece: &[u8]) -> Fed
+    requires { ⌜ FitObject s × (s .«ms_len» + s .size ≤ s .done) × (s .done + length (now piece) ≤ s .«ms_len» + s .size + 2) ⌝ }
+    ensures { λ r. ⌜ r ≡ feedObjectCrc s (now (piece .entry)) ⌝ }
+{
+    let data_end = s.ms_len as u32 + s.size;
+    let mut field = s.field;
+    octets::copy_in(&mut field, (s.done - data_end) as usize, piece);
+    let done = s.done + piece.len() as u32;
+    if done == data_end + 2 {
+        return verdict::settle_object_crc(s, field, words::word_in(field));
+    }
+    Fed {
+        answer: Answer::Step(Step::Framing),
+        state: FlatWalker {
+            done: done,
+            field: field,
+            ..s
+        },
+    }
+}
+
+// A piece of what is asked for in an object.
+pub fn feed_object(s: FlatWalker, piece: &[u8]) -> Fed
+    requires { ⌜ FitObject s × (length (now piece) ≤ requestObject s .len) ⌝ }
+    ensures { λ r. ⌜ r ≡ feedObject s (now (piece .entry)) ⌝ }
+{
+    if s.ms_len == 0 {
+        return feed_word(s, piece);
+    }
+    if s.done < s.ms_len as u32 + s.size {
+        return feed_object_data(s, piece);
+    }
+    feed_object_crc(s, piece)
 }
