@@ -1,16 +1,23 @@
 // Stage Chunk: a chunk of the object map, its size, its entries and its checksum, before the entries are walked.
 ghost use mathlib.Core.Path.{_≡_};
 ghost use mathlib.Core.Bool.{true};
-ghost use Prim.Native.Nat.{_<_, _^_};
+ghost use Prim.Native.Nat.{_+_, _<_, _≤_, _^_};
+ghost use lib.ListN.{length};
 ghost use Rattle.chunk.specs.Chunk.{enterChunk, requestChunk};
+ghost use Rattle.chunk.specs.Chunk.{feedChunkSize, feedChunkEntries, feedChunkCrc, feedChunk};
 ghost use Rattle.chunk.specs.Fit.{noObject, noEntry, chunkDone, fitChunk, inChunk, FitChunk, InChunk};
+use streaming::Answer;
 use streaming::Failure;
 use streaming::Fault;
+use streaming::Fed;
 use streaming::FlatHeader;
 use streaming::FlatWalker;
 use streaming::MapCursor;
 use streaming::Request;
 use streaming::Stage;
+use streaming::Step;
+
+mod settle;
 
 // The walk at a chunk's first byte. A chunk that can't hold a size and a checksum is a fault, which is told by the next call.
 pub fn enter_chunk(s: FlatWalker, chunk: u64) -> FlatWalker
@@ -48,6 +55,7 @@ pub fn enter_chunk(s: FlatWalker, chunk: u64) -> FlatWalker
     }
 }
 
+// The demand: what is left of the size, of the entries or of the checksum.
 pub fn request_chunk(s: FlatWalker) -> Request
     requires { ⌜ FitChunk s ⌝ }
     ensures { λ r. ⌜ r ≡ requestChunk s ⌝ }
@@ -71,6 +79,78 @@ pub fn request_chunk(s: FlatWalker) -> Request
         offset: offset,
         len: (s.size + 2 - d) as u64,
     }
+}
+
+// A piece of the size.
+fn feed_chunk_size(s: FlatWalker, piece: &[u8]) -> Fed
+    requires { ⌜ FitChunk s × (s .done + length (now piece) ≤ 2) ⌝ }
+    ensures { λ r. ⌜ r ≡ feedChunkSize s (now (piece .entry)) ⌝ }
+{
+    let mut field = s.field;
+    octets::copy_in(&mut field, s.done as usize, piece);
+    let done = s.done + piece.len() as u32;
+    if done == 2 {
+        return settle::settle_chunk_size(s, field, settle::number_in(field) as u32);
+    }
+    Fed {
+        answer: Answer::Step(Step::Framing),
+        state: FlatWalker {
+            done: done,
+            field: field,
+            ..s
+        },
+    }
+}
+
+// A piece of the entries, which are only summed until the checksum holds.
+fn feed_chunk_entries(s: FlatWalker, piece: &[u8]) -> Fed
+    requires { ⌜ FitChunk s × (s .done + length (now piece) ≤ s .size) ⌝ }
+    ensures { λ r. ⌜ r ≡ feedChunkEntries s (now (piece .entry)) ⌝ }
+{
+    let crc = crc::crc8(s.crc, piece);
+    Fed {
+        answer: Answer::Step(Step::Framing),
+        state: FlatWalker {
+            done: s.done + piece.len() as u32,
+            crc: crc,
+            ..s
+        },
+    }
+}
+
+// A piece of the checksum.
+fn feed_chunk_crc(s: FlatWalker, piece: &[u8]) -> Fed
+    requires { ⌜ FitChunk s × (s .size ≤ s .done) × (s .done + length (now piece) ≤ s .size + 2) ⌝ }
+    ensures { λ r. ⌜ r ≡ feedChunkCrc s (now (piece .entry)) ⌝ }
+{
+    let mut field = s.field;
+    octets::copy_in(&mut field, (s.done - s.size) as usize, piece);
+    let done = s.done + piece.len() as u32;
+    if done == s.size + 2 {
+        return settle::settle_chunk_crc(s, field, settle::number_in(field));
+    }
+    Fed {
+        answer: Answer::Step(Step::Framing),
+        state: FlatWalker {
+            done: done,
+            field: field,
+            ..s
+        },
+    }
+}
+
+// A piece of what is asked for.
+pub fn feed_chunk(s: FlatWalker, piece: &[u8]) -> Fed
+    requires { ⌜ FitChunk s × (length (now piece) ≤ requestChunk s .len) ⌝ }
+    ensures { λ r. ⌜ r ≡ feedChunk s (now (piece .entry)) ⌝ }
+{
+    if s.done < 2 {
+        return feed_chunk_size(s, piece);
+    }
+    if s.done < s.size {
+        return feed_chunk_entries(s, piece);
+    }
+    feed_chunk_crc(s, piece)
 }
 
 // Whether nothing of an object is held.
@@ -104,7 +184,7 @@ pub fn in_chunk(h: FlatHeader, m: MapCursor) -> bool
     ((3 <= len) & (len <= 2034)) & ((start <= m.chunk) & (m.chunk + len + 2 <= end))
 }
 
-// How far the chunk is: its size, once it is known, fits the map, which ends there.
+// Whether the chunk is as far as a walk can be: its size, once it is known, fits a map that ends there.
 fn chunk_done(end: u64, chunk: u64, done: u32, size: u32) -> bool
     requires { ⌜ chunk < 2 ^ 33 ⌝ }
     ensures { λ r. ⌜ r ≡ chunkDone end chunk done size ⌝ }
@@ -112,10 +192,11 @@ fn chunk_done(end: u64, chunk: u64, done: u32, size: u32) -> bool
     if done < 2 {
         return size == 0;
     }
-    ((2 <= size) & (size <= 2034)) & ((chunk + size as u64 + 2 <= end) & ((done as u64) < size as u64 + 2))
+    ((2 <= size) & (size <= 2034))
+        & ((chunk + size as u64 + 2 <= end) & ((done as u64) < size as u64 + 2))
 }
 
-// Whether a walk can reach the state, in this stage.
+// Whether a walk can reach the state in this stage.
 pub fn fit_chunk(s: FlatWalker) -> bool
     ensures { λ r. ⌜ (r ≡ fitChunk s) × (r ≡ true → FitChunk s) ⌝ }
 {

@@ -1,4 +1,6 @@
 // The types of the walk, with the Rust's names where a thing is the Rust's (src/streaming/mod.rs and flat.rs).
+ghost use mathlib.Core.Path.{_≡_};
+ghost use Rattle.streaming.specs.State.{fell as State·fell};
 
 // A section locator.
 pub struct Locator {
@@ -186,4 +188,17 @@ pub struct Started {
 pub struct Fed {
     pub answer: Answer,
     pub state: FlatWalker,
+}
+
+// A fault is answered and held.
+pub fn fell(f: Fault, s: FlatWalker) -> Fed
+    ensures { λ r. ⌜ r ≡ State·fell f s ⌝ }
+{
+    Fed {
+        answer: Answer::Refused(StreamError::Fault(f)),
+        state: FlatWalker {
+            failure: Failure::Held(f),
+            ..s
+        },
+    }
 }
