@@ -1,2 +1,4 @@
+pub mod Shows
 pub mod Keeping
 pub mod KeepingChunk
+pub mod KeepingSection
