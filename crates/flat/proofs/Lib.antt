@@ -2,3 +2,4 @@ pub mod Shows
 pub mod Keeping
 pub mod KeepingChunk
 pub mod KeepingSection
+pub mod KeepingObject
