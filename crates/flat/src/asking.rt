@@ -46,7 +46,7 @@ fn ask_entry(s: FlatWalker) -> Asked
 fn ask_object(s: FlatWalker) -> Asked
     ensures { λ r. ⌜ r ≡ askedIf (fitObject s) (asked.Demand (requestObject s)) ⌝ }
 {
-    if object::fit_object(s) {
+    if object::fit::fit_object(s) {
         return Asked::Demand(object::request_object(s));
     }
     Asked::Refused(StreamError::BadState)

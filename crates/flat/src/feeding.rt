@@ -35,7 +35,7 @@ pub fn refused(e: StreamError, s: FlatWalker) -> Fed
 }
 
 // A piece that is taken is no longer than the demand.
-fn offer(r: Request, offset: u64, size: u64) -> Offer
+fn offer_of(r: Request, offset: u64, size: u64) -> Offer
     ensures { λ o. ⌜ (o ≡ offerOf r offset size) × Fits o r size ⌝ }
 {
     if offset != r.offset {
@@ -44,20 +44,20 @@ fn offer(r: Request, offset: u64, size: u64) -> Offer
             actual: offset,
         });
     }
-    if (size == 0) | (r.len < size) {
-        return Offer::Refused(StreamError::InvalidFeed {
-            maximum: r.len,
-            actual: size,
-        });
+    if (0 < size) & (size <= r.len) {
+        return Offer::Taken;
     }
-    Offer::Taken
+    Offer::Refused(StreamError::InvalidFeed {
+        maximum: r.len,
+        actual: size,
+    })
 }
 
 fn to_section(s: FlatWalker, offset: u64, piece: &[u8]) -> Fed
     ensures { λ r. ⌜ r ≡ fedIf (fitSection s) (requestSection s) s offset (now (piece .entry)) (feedSection s (now (piece .entry))) ⌝ }
 {
     if section::fit_section(s) {
-        let o = offer(section::request_section(s), offset, piece.len() as u64);
+        let o = offer_of(section::request_section(s), offset, piece.len() as u64);
         return match o {
             Offer::Taken => section::feed_section(s, piece),
             Offer::Refused(e) => refused(e, s),
@@ -70,7 +70,7 @@ fn to_chunk(s: FlatWalker, offset: u64, piece: &[u8]) -> Fed
     ensures { λ r. ⌜ r ≡ fedIf (fitChunk s) (requestChunk s) s offset (now (piece .entry)) (feedChunk s (now (piece .entry))) ⌝ }
 {
     if chunk::fit_chunk(s) {
-        let o = offer(chunk::request_chunk(s), offset, piece.len() as u64);
+        let o = offer_of(chunk::request_chunk(s), offset, piece.len() as u64);
         return match o {
             Offer::Taken => chunk::feed_chunk(s, piece),
             Offer::Refused(e) => refused(e, s),
@@ -84,7 +84,7 @@ fn to_entry(s: FlatWalker, offset: u64, piece: &[u8]) -> Fed
     ensures { λ r. ⌜ r ≡ fedIf (fitEntry s) (requestEntry s) s offset (now (piece .entry)) (feedEntry s (getD (now (piece .entry)) 0 0)) ⌝ }
 {
     if entry::fit_entry(s) {
-        let o = offer(entry::request_entry(s), offset, piece.len() as u64);
+        let o = offer_of(entry::request_entry(s), offset, piece.len() as u64);
         return match o {
             Offer::Taken => entry::feed_entry(s, piece[0]),
             Offer::Refused(e) => refused(e, s),
@@ -96,8 +96,8 @@ fn to_entry(s: FlatWalker, offset: u64, piece: &[u8]) -> Fed
 fn to_object(s: FlatWalker, offset: u64, piece: &[u8]) -> Fed
     ensures { λ r. ⌜ r ≡ fedIf (fitObject s) (requestObject s) s offset (now (piece .entry)) (feedObject s (now (piece .entry))) ⌝ }
 {
-    if object::fit_object(s) {
-        let o = offer(object::request_object(s), offset, piece.len() as u64);
+    if object::fit::fit_object(s) {
+        let o = offer_of(object::request_object(s), offset, piece.len() as u64);
         return match o {
             Offer::Taken => object::feed_object(s, piece),
             Offer::Refused(e) => refused(e, s),

@@ -44,7 +44,8 @@ pub fn fit(s: FlatWalker) -> bool
 pub fn consistent(s: FlatWalker) -> bool
     ensures { λ r. ⌜ r ≡ consistentOf s ⌝ }
 {
-    if tests::is_sound(s.failure) {
+    let failure = s.failure;
+    if tests::is_sound(failure) {
         if tests::is_taken(s.header) {
             return tests::consistent_at(s);
         }

@@ -38,7 +38,7 @@ pub fn fit_at(s: FlatWalker) -> bool
         Stage::Classes => section::fit_section(s),
         Stage::Chunk => chunk::fit_chunk(s),
         Stage::Entry => entry::fit_entry(s),
-        Stage::Object => object::fit_object(s),
+        Stage::Object => object::fit::fit_object(s),
         Stage::Done => true,
     }
 }
@@ -52,7 +52,7 @@ pub fn consistent_at(s: FlatWalker) -> bool
         Stage::Classes => section::fit_section(s),
         Stage::Chunk => chunk::fit_chunk(s),
         Stage::Entry => entry::entry_consistent(s),
-        Stage::Object => object::object_consistent(s),
+        Stage::Object => object::fit::object_consistent(s),
         Stage::Done => true,
     }
 }
