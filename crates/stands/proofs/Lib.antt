@@ -1,4 +1,5 @@
 pub mod Bare
+pub mod Fitness
 pub mod Landing
 pub mod ObjectDemands
 pub mod Objects
