@@ -6,3 +6,5 @@ pub mod KeepingObject
 pub mod KeepingEntry
 pub mod Demanded
 pub mod KeepingCalls
+pub mod Outcomes
+pub mod Laws
