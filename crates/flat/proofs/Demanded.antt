@@ -14,6 +14,10 @@ use Rattle.streaming.specs.declared.FlatWalker.{FlatWalker}
 use Rattle.flat.specs.Fit.{isSound, fitOf}
 use Rattle.flat.specs.Flat.{requestAt, requestIn, requestOf}
 
+-- two numbers that differ are equal nowhere: for a case that can't be, by `apart (cc)`
+pub apart : {A : Type 0} → _≡_ {A = ℕ} 0 1 → A
+apart z = absurd (omega arith)
+
 pub record Demanded (s : FlatWalker) (r : Request) : Type 0 where
   pub sound : isSound (s .failure) ≡ true
   pub fit : fitOf s ≡ true
@@ -26,8 +30,8 @@ demanded s r = by-failure (s .failure) refl
     by-fit : isSound (s .failure) ≡ true → (b : Bool) → fitOf s ≡ b → (if b then requestAt (s .stage) s else asked.Refused error.BadState) ≡ asked.Demand r
         → Demanded s r
     by-fit k true e q = record { sound = k; fit = e; asks = q }
-    by-fit k false e q = let z : _≡_ {A = ℕ} 0 1 = cc in absurd (omega arith)
+    by-fit k false e q = apart (cc)
 
     by-failure : (f : Failure) → s .failure ≡ f → requestIn f s ≡ asked.Demand r → Demanded s r
     by-failure failure.None e q = by-fit (ap isSound e) (fitOf s) refl q
-    by-failure (failure.Held f) e q = let z : _≡_ {A = ℕ} 0 1 = cc in absurd (omega arith)
+    by-failure (failure.Held f) e q = apart (cc)

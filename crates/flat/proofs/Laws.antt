@@ -3,7 +3,6 @@ use Prim.Native.Nat.{ℕ}
 use mathlib.Core.Bool.{Bool, true, false, _&&_}
 use mathlib.Core.List.{List}
 use mathlib.Core.Path.{_≡_, refl, ap, sym, _∙_}
-use native.Mathlib.Omega.{arith}
 use lib.ListN.{length}
 use lib.Dec.{ltb, leb, eqb}
 use Rattle.streaming.specs.Choose.{if_then_else_}
@@ -28,7 +27,7 @@ use Rattle.streaming.proofs.Choose.{in-both}
 use Rattle.account.specs.Statement.{endedBy}
 use Rattle.flat.specs.Fit.{fitOf}
 use Rattle.flat.specs.Flat.{requestAt, requestIn, requestOf, endOf, feedAt, offered, feedOf}
-use Rattle.flat.proofs.Demanded.{demanded}
+use Rattle.flat.proofs.Demanded.{apart, demanded}
 use Rattle.flat.proofs.Outcomes.{StepOrFault, Outcome, outcome-at}
 
 -- ---- after a fault
@@ -46,10 +45,31 @@ module _ (s : FlatWalker) (f : Fault) (held : s .failure ≡ failure.Held f) whe
   unfolding feedOf
   held-feed offset piece = ap (λ (q : Asked). offered q s offset piece) held-request
 
+-- only a held fault is told by `request`
+pub told-held : (s : FlatWalker) (f : Fault) → requestOf s ≡ asked.Refused (error.Fault f) → s .failure ≡ failure.Held f
+unfolding requestOf if_then_else_
+told-held s f q = by-failure (s .failure) refl q
+  where
+    by-stage : (g : Stage) → requestAt g s ≡ asked.Refused (error.Fault f) → _≡_ {A = ℕ} 0 1
+    by-stage stage.Vars q = cc
+    by-stage stage.Classes q = cc
+    by-stage stage.Chunk q = cc
+    by-stage stage.Entry q = cc
+    by-stage stage.Object q = cc
+    by-stage stage.Done q = cc
+
+    by-fit : (b : Bool) → (if b then requestAt (s .stage) s else asked.Refused error.BadState) ≡ asked.Refused (error.Fault f) → _≡_ {A = ℕ} 0 1
+    by-fit true q = by-stage (s .stage) q
+    by-fit false q = cc
+
+    by-failure : (x : Failure) → s .failure ≡ x → requestIn x s ≡ asked.Refused (error.Fault f) → s .failure ≡ failure.Held f
+    by-failure failure.None e q = apart (by-fit (fitOf s) q)
+    by-failure (failure.Held g) e q = let same : g ≡ f = cc in e ∙ ap failure.Held same
+
 -- ---- what a call does: nothing but its answer, or what an accepted piece does
 
 pub data Did (s : FlatWalker) (r : Fed) : Type 0 where
-  refused : (e : StreamError) → r ≡ refusedBy e s → Did s r
+  refused : (e : StreamError) → ((f : Fault) → e ≡ error.Fault f → s .failure ≡ failure.Held f) → r ≡ refusedBy e s → Did s r
   accepted : Outcome (s .header) r → Did s r
 
 -- a stage with a demand is not the last
@@ -57,21 +77,21 @@ more-asked : (g : Stage) (s : FlatWalker) (r : Request) → requestAt g s ≡ as
 more-asked g s r q e = let z : asked.Nothing ≡ asked.Demand r = ap (λ (x : Stage). requestAt x s) (sym e) ∙ q in impossible z
   where
     impossible : asked.Nothing ≡ asked.Demand r → ⊥
-    impossible z = let c : _≡_ {A = ℕ} 0 1 = cc in omega arith
+    impossible z = apart (cc)
 
 pub did : (s : FlatWalker) (offset : ℕ) (piece : List ℕ) → Did s (feedOf s offset piece)
 unfolding feedOf
 did s offset piece = by-asked (requestOf s) refl
   where
     by-asked : (q : Asked) → requestOf s ≡ q → Did s (offered q s offset piece)
-    by-asked asked.Nothing e = refused error.Finished refl
-    by-asked (asked.Refused x) e = refused x refl
+    by-asked asked.Nothing e = refused error.Finished (λ f q. apart (cc)) refl
+    by-asked (asked.Refused x) e = refused x (λ f q. told-held s f (e ∙ ap asked.Refused q)) refl
     by-asked (asked.Demand r) e =
         in-both (Did s) (eqb offset (r .offset))
         (λ h. in-both (Did s) (ltb 0 (length piece) && leb (length piece) (r .len))
         (λ k. accepted (outcome-at (s .stage) s piece (more-asked (s .stage) s r (demanded s r e .asks))))
-        (λ k. refused (error.InvalidFeed (r .len) (length piece)) refl))
-        (λ h. refused (error.WrongOffset (r .offset) offset) refl)
+        (λ k. refused (error.InvalidFeed (r .len) (length piece)) (λ f q. apart (cc)) refl))
+        (λ h. refused (error.WrongOffset (r .offset) offset) (λ f q. apart (cc)) refl)
 
 -- ---- what follows
 
@@ -80,7 +100,7 @@ module _ (s : FlatWalker) (offset : ℕ) (piece : List ℕ) where
   header-stays = from (feedOf s offset piece) (did s offset piece)
     where
       from : (r : Fed) → Did s r → r .state .header ≡ s .header
-      from r (refused e q) = ap (λ (x : Fed). x .state .header) q
+      from r (refused e only q) = ap (λ (x : Fed). x .state .header) q
       from r (accepted o) = o .header
 
   pub refused-stays : (e : StreamError) → feedOf s offset piece .answer ≡ answer.Refused e → ((f : Fault) → e ≡ error.Fault f → ⊥)
@@ -88,9 +108,25 @@ module _ (s : FlatWalker) (offset : ℕ) (piece : List ℕ) where
   refused-stays e a other = from (feedOf s offset piece) (did s offset piece) a
     where
       no-fault : (x : Answer) (t : FlatWalker) → StepOrFault x t → x ≡ answer.Refused e → t ≡ s
-      no-fault (answer.Step y) t told q = let c : _≡_ {A = ℕ} 0 1 = cc in absurd (omega arith)
+      no-fault (answer.Step y) t told q = apart (cc)
       no-fault (answer.Refused y) t told q = let same : y ≡ e = cc in absurd (other (told .0) (sym same ∙ told .1))
 
       from : (r : Fed) → Did s r → r .answer ≡ answer.Refused e → r .state ≡ s
-      from r (refused x q) k = ap (λ (y : Fed). y .state) q
+      from r (refused x only q) k = ap (λ (y : Fed). y .state) q
       from r (accepted o) k = no-fault (r .answer) (r .state) (o .told) k
+
+  pub fault-held : (f : Fault) → feedOf s offset piece .answer ≡ answer.Refused (error.Fault f) → feedOf s offset piece .state .failure ≡ failure.Held f
+  fault-held f a = from (feedOf s offset piece) (did s offset piece) a
+    where
+      the-fault : (x : Answer) (t : FlatWalker) → StepOrFault x t → x ≡ answer.Refused (error.Fault f) → t .failure ≡ failure.Held f
+      the-fault (answer.Step y) t told q = apart (cc)
+      the-fault (answer.Refused y) t (g, e, holds) q = let same : g ≡ f = cc in holds ∙ ap failure.Held same
+
+      from : (r : Fed) → Did s r → r .answer ≡ answer.Refused (error.Fault f) → r .state .failure ≡ failure.Held f
+      from r (refused x only q) k =
+          let same : x ≡ error.Fault f = refused-same x (sym (ap (λ (y : Fed). y .answer) q) ∙ k) in
+          ap (λ (y : Fed). y .state .failure) q ∙ only f same
+        where
+          refused-same : (x : StreamError) → answer.Refused x ≡ answer.Refused (error.Fault f) → x ≡ error.Fault f
+          refused-same x e = cc
+      from r (accepted o) k = the-fault (r .answer) (r .state) (o .told) k

@@ -8,3 +8,5 @@ pub mod Demanded
 pub mod KeepingCalls
 pub mod Outcomes
 pub mod Laws
+pub mod Saved
+pub mod Demands
