@@ -6,7 +6,6 @@ use Prim.Native.Nat.{ℕ}
 use Rattle.streaming.specs.Choose.{if_then_else_}
 use Rattle.streaming.specs.declared.Request.{Request}
 use Rattle.streaming.specs.declared.StreamError.the-variants as error
-use Rattle.streaming.specs.declared.Asked.{Asked}
 use Rattle.streaming.specs.declared.Asked.the-variants as asked
 use Rattle.streaming.specs.declared.Failure.{Failure}
 use Rattle.streaming.specs.declared.Failure.the-variants as failure

@@ -1,22 +1,21 @@
 -- What is demanded is never 0 bytes, and never lies outside: a section's in its locator, a chunk's and an entry's in the map, and an object's in the source.
-use Prim.Native.Nat.{ℕ, _+_, _-_, _*_, _%_, _≤_, _<_}
+use Prim.Native.Nat.{ℕ, _+_, _≤_, _<_}
 use mathlib.Core.Bool.{Bool, true, false}
 use mathlib.Core.Option.{Option, none, some}
-use mathlib.Core.Path.{_≡_, refl, sym, ap, subst}
+use mathlib.Core.Path.{_≡_, refl, subst}
 use native.Mathlib.Omega.{arith}
-use lib.Dec.{ltb, leb, eqb}
-use borrow.Author.Tests.{ltb-true, ltb-false, leb-true, eqb-true, eqb-false}
+use lib.Dec.{ltb, eqb}
+use borrow.Author.Tests.{ltb-true, ltb-false, eqb-true, eqb-false}
 use Rattle.streaming.specs.Choose.{if_then_else_}
 use Rattle.streaming.specs.Numbers.{partNumber}
 use Rattle.streaming.specs.declared.StreamError.{StreamError}
 use Rattle.streaming.specs.declared.Request.{Request}
-use Rattle.streaming.specs.declared.Asked.{Asked}
 use Rattle.streaming.specs.declared.Asked.the-variants as asked
 use Rattle.streaming.specs.declared.Stage.{Stage}
 use Rattle.streaming.specs.declared.Stage.the-variants as stage
 use Rattle.streaming.specs.declared.FlatWalker.{FlatWalker}
 use Rattle.streaming.proofs.Cases.{shown}
-use Rattle.streaming.proofs.Choose.{in-both, and-left, and-right}
+use Rattle.streaming.proofs.Choose.{in-both}
 use Rattle.rules.specs.Header.{mapStart, mapEnd, locatorOf}
 use Rattle.rules.proofs.Header.{Started, started}
 use Rattle.rules.specs.Section.{frame}

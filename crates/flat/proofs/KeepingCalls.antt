@@ -1,6 +1,6 @@
 -- Fitness is kept by every accepted piece, by every call, and by every list of calls from Start on.
 use Prim.Native.Nat.{ℕ, _≤_, _<_}
-use mathlib.Core.Bool.{Bool, true, false, _&&_}
+use mathlib.Core.Bool.{true, _&&_}
 use mathlib.Core.List.{List, [], _∷_}
 use mathlib.Core.Option.{none}
 use mathlib.Core.Path.{_≡_, refl, ap, sym, subst}
@@ -9,7 +9,6 @@ use lib.ListN.{length, getD}
 use lib.Dec.{ltb, leb, eqb}
 use borrow.Author.Tests.{ltb-true, leb-true}
 use Rattle.octets.specs.Octets.{same}
-use Rattle.streaming.specs.Choose.{if_then_else_}
 use Rattle.streaming.specs.declared.FlatHeader.{FlatHeader}
 use Rattle.streaming.specs.declared.Request.{Request}
 use Rattle.streaming.specs.declared.Asked.{Asked}
@@ -23,12 +22,11 @@ use Rattle.account.specs.Statement.{Call}
 use Rattle.rules.specs.Header.{startRefusal, mapStart}
 use Rattle.chunk.specs.Fit.{noObject, noEntry}
 use Rattle.section.specs.Section.{enterNext}
-use Rattle.section.specs.Fit.{fitSection}
 use Rattle.flat.specs.Fit.{isTaken, fitOf, fitAt}
 use Rattle.flat.specs.Flat.{blank, startOf, requestAt, requestOf, feedAt, offered, feedOf}
 use Rattle.flat.proofs.Demanded.{demanded}
 use Rattle.flat.proofs.Keeping.{Keeps, Taken}
-use Rattle.flat.proofs.KeepingSection.{untouched, fit-section-untouched, keeps-enter-section, keeps-section}
+use Rattle.flat.proofs.KeepingSection.{fit-section-untouched, keeps-enter-section, keeps-section}
 use Rattle.flat.proofs.KeepingChunk.{keeps-enter-chunk, keeps-chunk}
 use Rattle.flat.proofs.KeepingEntry.{keeps-entry}
 use Rattle.flat.proofs.KeepingObject.{keeps-object}

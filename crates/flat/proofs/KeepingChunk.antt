@@ -1,22 +1,20 @@
 -- A piece of a chunk keeps fitness.
 use Prim.Native.Nat.{ℕ, _+_, _-_, _≤_, _<_}
-use mathlib.Core.Bool.{Bool, true, false, _&&_}
+use mathlib.Core.Bool.{Bool, true, false}
 use mathlib.Core.List.{List}
 use mathlib.Core.Path.{_≡_, refl, _∙_}
 use native.Mathlib.Omega.{arith}
 use lib.ListN.{length, take}
-use lib.Seq.{sets}
 use lib.Dec.{ltb, leb, eqb}
-use borrow.Author.Tests.{ltb-true, ltb-false, leb-true, eqb-true, eqb-false, lt-ltb, le-ltb, le-leb, eq-eqb}
-use Rattle.crc.specs.Crc.{crcOf}
-use Rattle.octets.specs.Octets.{bigEndian, same}
+use borrow.Author.Tests.{ltb-true, ltb-false, eqb-false, lt-ltb, le-ltb, le-leb, eq-eqb}
+use Rattle.octets.specs.Octets.{same}
 use Rattle.streaming.specs.Choose.{if_then_else_}
 use Rattle.streaming.specs.State.{inUnit, withMap, atEntry}
 use Rattle.streaming.specs.declared.FlatWalker.{FlatWalker}
 use Rattle.streaming.specs.declared.Stage.the-variants as stage
 use Rattle.streaming.specs.declared.Fed.{Fed}
 use Rattle.streaming.proofs.Cases.{shown}
-use Rattle.streaming.proofs.Choose.{in-both, and-left, and-right}
+use Rattle.streaming.proofs.Choose.{in-both, and-left}
 use Rattle.rules.specs.Bytes.{checksum}
 use Rattle.rules.specs.Header.{mapStart, mapEnd}
 use Rattle.rules.specs.Map.{chunkFits}
@@ -82,8 +80,11 @@ module _ (s : FlatWalker) (taken : Taken s) (own : (t : FlatWalker) → fitAt (s
       least e = let two : 2 ≤ size = search shown in omega arith
 
   -- the first entry
-  at-entry : (field : List ℕ) → 2 ≤ s .size → (s .size ≡ 2 → ⊥)
-      → fitEntry (withMap (inUnit s stage.Entry (s .size + 2) (s .size) (s .crc) field) (atEntry (s .map .chunk) (s .size) (s .map .chunk + 2) 0 0 0 0 0)) ≡ true
+  abbrev first : (field : List ℕ) → FlatWalker
+  first field =
+      withMap (inUnit s stage.Entry (s .size + 2) (s .size) (s .crc) field) (atEntry (s .map .chunk) (s .size) (s .map .chunk + 2) 0 0 0 0 0)
+
+  at-entry : (field : List ℕ) → 2 ≤ s .size → (s .size ≡ 2 → ⊥) → fitEntry (first field) ≡ true
   unfolding fitEntry atByte inChunk
   at-entry field two more =
       let three : 3 ≤ s .size = omega arith in

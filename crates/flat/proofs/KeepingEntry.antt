@@ -1,12 +1,11 @@
 -- A byte of an entry keeps fitness.
-use Prim.Native.Nat.{ℕ, _+_, _*_, _-_, _/_, _%_, _^_, _≤_, _<_}
+use Prim.Native.Nat.{ℕ, _+_, _-_, _/_, _%_, _^_, _≤_, _<_}
 use mathlib.Core.Bool.{Bool, true, false, _&&_, not}
 use mathlib.Core.Option.{Option, none, some}
 use mathlib.Core.Path.{_≡_, refl, _∙_}
 use native.Mathlib.Omega.{arith}
 use lib.Dec.{ltb, leb, eqb}
-use borrow.Author.Tests.{ltb-true, leb-true, eqb-false, not-true}
-use Rattle.streaming.specs.Choose.{if_then_else_}
+use borrow.Author.Tests.{ltb-true, leb-true, not-true}
 use Rattle.streaming.specs.State.{withMap, atEntry}
 use Rattle.streaming.specs.declared.FlatWalker.{FlatWalker}
 use Rattle.streaming.specs.declared.Fed.{Fed}
@@ -17,7 +16,7 @@ use Rattle.entry.specs.Fit.{fitEntry, atByte, FitEntry}
 use Rattle.entry.proofs.Fitness.{fit-entry-shows}
 use Rattle.flat.specs.Fit.{fitAt}
 use Rattle.flat.proofs.Keeping.{Keeps, Taken, keeps-failing, keeps-at, below, made}
-use Rattle.flat.proofs.KeepingObject.{Led, keeps-enter-object}
+use Rattle.flat.proofs.KeepingVisit.{Led, keeps-enter-object}
 
 -- a moved location is at most 2^63 - 1
 abbrev Near : Option ℕ → Type 0

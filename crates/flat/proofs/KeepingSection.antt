@@ -23,7 +23,7 @@ use Rattle.section.specs.Section.{partOf, sectionOf, enterSection, enterNext, s
 use Rattle.section.specs.Fit.{fitSection, FitSection}
 use Rattle.flat.specs.Fit.{fitAt}
 use Rattle.flat.proofs.Shows.{fit-section-shows}
-use Rattle.flat.proofs.Keeping.{Keeps, Taken, keeps-failing, keeps-at, and-both, below, made}
+use Rattle.flat.proofs.Keeping.{Keeps, Taken, keeps-failing, keeps-at, and-both, below}
 
 -- the map and the objects are untouched
 abbrev pub untouched : FlatWalker → Bool

@@ -7,7 +7,6 @@ use lib.ListN.{length}
 use lib.Dec.{ltb, leb, eqb}
 use Rattle.streaming.specs.Choose.{if_then_else_}
 use Rattle.streaming.specs.State.{refusedBy}
-use Rattle.streaming.specs.declared.FlatHeader.{FlatHeader}
 use Rattle.streaming.specs.declared.Request.{Request}
 use Rattle.streaming.specs.declared.Fault.{Fault}
 use Rattle.streaming.specs.declared.StreamError.{StreamError}
@@ -26,7 +25,7 @@ use Rattle.streaming.specs.declared.Fed.{Fed}
 use Rattle.streaming.proofs.Choose.{in-both}
 use Rattle.account.specs.Statement.{endedBy}
 use Rattle.flat.specs.Fit.{isSound, fitOf}
-use Rattle.flat.specs.Flat.{requestAt, requestIn, requestOf, endOf, feedAt, offered, feedOf}
+use Rattle.flat.specs.Flat.{requestAt, requestIn, requestOf, endOf, offered, feedOf}
 use Rattle.flat.proofs.Demanded.{apart, demanded}
 use Rattle.flat.proofs.Keeping.{Keeps}
 use Rattle.flat.proofs.Outcomes.{StepOrFault, Outcome, outcome-at}

@@ -2,6 +2,7 @@ pub mod Shows
 pub mod Keeping
 pub mod KeepingChunk
 pub mod KeepingSection
+pub mod KeepingVisit
 pub mod KeepingObject
 pub mod KeepingEntry
 pub mod Demanded
@@ -10,3 +11,4 @@ pub mod Outcomes
 pub mod Laws
 pub mod Saved
 pub mod Demands
+pub mod Main

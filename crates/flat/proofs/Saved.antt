@@ -1,12 +1,12 @@
 -- The Rust's own test of a saved state against fitness: a state that passes it is fit, but for a size that its words can't hold.
 use Prim.Native.Nat.{_-_, _^_, _≤_}
-use mathlib.Core.Bool.{Bool, true, false, _&&_}
-use mathlib.Core.List.{List, [], _∷_}
+use mathlib.Core.Bool.{true, false}
+use mathlib.Core.List.{[], _∷_}
 use mathlib.Core.Path.{_≡_, refl}
 use native.Mathlib.Omega.{arith}
 use lib.ListN.{replicate}
 use lib.Dec.{leb}
-use borrow.Author.Tests.{leb-true, le-leb}
+use borrow.Author.Tests.{le-leb}
 use Rattle.streaming.specs.Choose.{if_then_else_}
 use Rattle.streaming.specs.State.{atEntry}
 use Rattle.streaming.specs.declared.Locator.{Locator}
@@ -22,7 +22,7 @@ use Rattle.rules.specs.Object.{mayStart, mayEnd}
 use Rattle.chunk.specs.Fit.{inChunk}
 use Rattle.entry.specs.Fit.{atByte, entryConsistent, fitEntry}
 use Rattle.object.specs.Fit.{behindEntry, objectDone, objectConsistent, sizeInWords, fitObject}
-use Rattle.flat.specs.Fit.{isSound, isTaken, fitAt, consistentAt, fitOf, consistentOf}
+use Rattle.flat.specs.Fit.{isTaken, fitAt, consistentAt, fitOf, consistentOf}
 use Rattle.flat.proofs.Keeping.{and-both}
 
 -- ---- what passes is fit
@@ -77,5 +77,6 @@ unfolding consistentOf startRefusal isOutside locatorOf firstOf objectConsistent
 oversized-consistent = refl
 
 pub oversized-unfit : fitOf oversized ≡ false
-unfolding fitOf startRefusal isOutside locatorOf firstOf fitObject objectConsistent sizeInWords inChunk behindEntry objectDone mapEnd mayStart mayEnd if_then_else_
+unfolding fitOf startRefusal isOutside locatorOf firstOf fitObject sizeInWords objectConsistent inChunk behindEntry objectDone mapEnd mayStart mayEnd
+    if_then_else_
 oversized-unfit = refl

@@ -1,14 +1,14 @@
 -- What the tests of stages Vars, Classes and Object show.
-use Prim.Native.Nat.{ℕ, _+_, _*_, _^_, _-_, _≤_, _<_}
+use Prim.Native.Nat.{_+_, _*_, _^_, _-_, _≤_, _<_}
 use mathlib.Core.Bool.{Bool, true, false}
 use mathlib.Core.Path.{_≡_, refl}
 use native.Mathlib.Omega.{arith}
 use lib.Dec.{ltb, eqb}
-use borrow.Author.Tests.{ltb-true, ltb-false, leb-true, eqb-true, eqb-false}
+use borrow.Author.Tests.{ltb-true, ltb-false, eqb-true, eqb-false}
 use Rattle.streaming.specs.Choose.{if_then_else_}
 use Rattle.streaming.specs.declared.FlatWalker.{FlatWalker}
 use Rattle.streaming.proofs.Cases.{shown}
-use Rattle.streaming.proofs.Choose.{in-both, and-left, and-right}
+use Rattle.streaming.proofs.Choose.{in-both}
 use Rattle.rules.specs.Section.{frame}
 use Rattle.rules.specs.Object.{mayStart, mayEnd}
 use Rattle.chunk.specs.Fit.{InChunk}
