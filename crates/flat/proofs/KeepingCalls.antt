@@ -1,13 +1,11 @@
 -- Fitness is kept by every accepted piece, by every call, and by every list of calls from Start on.
 use Prim.Native.Nat.{ℕ, _≤_, _<_}
-use mathlib.Core.Bool.{true, _&&_}
+use mathlib.Core.Bool.{true}
 use mathlib.Core.List.{List, [], _∷_}
 use mathlib.Core.Option.{none}
 use mathlib.Core.Path.{_≡_, refl, ap, sym, subst}
 use native.Mathlib.Omega.{arith}
 use lib.ListN.{length, getD}
-use lib.Dec.{ltb, leb, eqb}
-use borrow.Author.Tests.{ltb-true, leb-true}
 use Rattle.octets.specs.Octets.{same}
 use Rattle.streaming.specs.declared.FlatHeader.{FlatHeader}
 use Rattle.streaming.specs.declared.Request.{Request}
@@ -17,6 +15,7 @@ use Rattle.streaming.specs.declared.Stage.{Stage}
 use Rattle.streaming.specs.declared.Stage.the-variants as stage
 use Rattle.streaming.specs.declared.FlatWalker.{FlatWalker}
 use Rattle.streaming.specs.declared.Fed.{Fed}
+use Rattle.streaming.proofs.Cases.{shown}
 use Rattle.streaming.proofs.Choose.{in-both, and-left, and-right}
 use Rattle.account.specs.Statement.{Call}
 use Rattle.rules.specs.Header.{startRefusal, mapStart}
@@ -89,10 +88,12 @@ keeps-feed s offset piece kept = by-asked (requestOf s) refl
     by-asked (asked.Refused x) e = kept
     by-asked (asked.Demand r) e =
         let d = demanded s r e in
-        in-both (λ (f : Fed). Keeps (f .state)) (eqb offset (r .offset))
-        (λ h. in-both (λ (f : Fed). Keeps (f .state)) (ltb 0 (length piece) && leb (length piece) (r .len))
-        (λ k. keeps s piece (d .fit) (ltb-true _ _ (and-left (ltb 0 (length piece)) (leb (length piece) (r .len)) k)) r (d .asks)
-        (leb-true _ _ (and-right (ltb 0 (length piece)) (leb (length piece) (r .len)) k)))
+        in-both (λ (f : Fed). Keeps (f .state)) _
+        (λ h. in-both (λ (f : Fed). Keeps (f .state)) _
+        (λ k.
+        let more : 0 < length piece = search shown in
+        let most : length piece ≤ r .len = search shown in
+        keeps s piece (d .fit) more r (d .asks) most)
         (λ k. kept))
         (λ h. kept)
 

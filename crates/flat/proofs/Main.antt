@@ -26,7 +26,7 @@ use Rattle.flat.proofs.Keeping.{Keeps}
 use Rattle.flat.proofs.KeepingCalls.{walked}
 use Rattle.flat.proofs.KeepingCalls as K
 use Rattle.flat.proofs.Laws as L
-use Rattle.flat.proofs.Saved.{oversized}
+use Rattle.flat.proofs.Saved.{oversized, eightBytes, nineBytes}
 use Rattle.flat.proofs.Saved as S
 use Rattle.flat.proofs.Demands.{SecondWord, InPlace}
 use Rattle.flat.proofs.Demands as D
@@ -106,3 +106,8 @@ consistent-fit = S.consistent-fit
 -- The Rust's test alone does not show that: here is a state that passes it, and that no walk reaches.
 pub consistent-is-less : (consistentOf oversized ≡ true) × (fitOf oversized ≡ false)
 consistent-is-less = (S.oversized-consistent, S.oversized-unfit)
+
+-- And a walk goes on from a state that passes it to one that does not, and that is fit: after nine continued bytes of an entry. So a state that is
+-- saved there is refused by the Rust's test, though the walk reached it.
+pub consistent-not-kept : (consistentOf eightBytes ≡ true) × (consistentOf nineBytes ≡ false) × (fitOf nineBytes ≡ true)
+consistent-not-kept = (S.eight-consistent, S.nine-inconsistent, S.nine-fit)

@@ -1,4 +1,5 @@
--- The Rust's own test of a saved state against fitness: a state that passes it is fit, but for a size that its words can't hold.
+-- The Rust's own test of a saved state against fitness: a state that passes it is fit, but for a size that its words can't hold; and a walk reaches
+-- states that do not pass it.
 use Prim.Native.Nat.{_-_, _^_, _≤_}
 use mathlib.Core.Bool.{true, false}
 use mathlib.Core.List.{[], _∷_}
@@ -20,9 +21,11 @@ use Rattle.streaming.proofs.Choose.{and-left, and-right}
 use Rattle.rules.specs.Header.{firstOf, locatorOf, mapEnd, isOutside, startRefusal}
 use Rattle.rules.specs.Object.{mayStart, mayEnd}
 use Rattle.chunk.specs.Fit.{inChunk}
+use Rattle.entry.specs.Entry.{requestEntry, bitsOf, moreGroups, settleGroup, feedEntry}
 use Rattle.entry.specs.Fit.{atByte, entryConsistent, fitEntry}
 use Rattle.object.specs.Fit.{behindEntry, objectDone, objectConsistent, sizeInWords, fitObject}
 use Rattle.flat.specs.Fit.{isTaken, fitAt, consistentAt, fitOf, consistentOf}
+use Rattle.flat.specs.Flat.{requestOf, feedOf}
 use Rattle.flat.proofs.Keeping.{and-both}
 
 -- ---- what passes is fit
@@ -80,3 +83,29 @@ pub oversized-unfit : fitOf oversized ≡ false
 unfolding fitOf startRefusal isOutside locatorOf firstOf fitObject sizeInWords objectConsistent inChunk behindEntry objectDone mapEnd mayStart mayEnd
     if_then_else_
 oversized-unfit = refl
+
+-- ---- and a walk goes on from a state that passes to one that does not: eight bytes of a delta are behind, and a ninth is continued
+
+abbrev pub eightBytes : FlatWalker
+eightBytes =
+    record {
+      header = wide; stage = stage.Entry; done = 20; size = 18; crc = 0; field = replicate 4 0; head = replicate 16 0;
+      object = 0; «ms_len» = 0; words = 0; map = atEntry 200 18 210 0 0 0 56 0; failure = failure.None;
+    }
+
+abbrev pub nineBytes : FlatWalker
+nineBytes = feedOf eightBytes 210 (0x80 ∷ []) .state
+
+pub eight-consistent : consistentOf eightBytes ≡ true
+unfolding consistentOf startRefusal isOutside locatorOf firstOf entryConsistent atByte inChunk mapEnd if_then_else_
+eight-consistent = refl
+
+pub nine-inconsistent : consistentOf nineBytes ≡ false
+unfolding consistentOf fitOf startRefusal isOutside locatorOf firstOf entryConsistent fitEntry atByte inChunk mapEnd feedOf requestOf requestEntry
+    feedEntry settleGroup moreGroups bitsOf if_then_else_
+nine-inconsistent = refl
+
+pub nine-fit : fitOf nineBytes ≡ true
+unfolding fitOf startRefusal isOutside locatorOf firstOf fitEntry atByte inChunk mapEnd feedOf requestOf requestEntry feedEntry settleGroup moreGroups
+    bitsOf if_then_else_
+nine-fit = refl
