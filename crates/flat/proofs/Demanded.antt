@@ -5,13 +5,12 @@ use native.Mathlib.Omega.{arith}
 use Prim.Native.Nat.{ℕ}
 use Rattle.streaming.specs.Choose.{if_then_else_}
 use Rattle.streaming.specs.declared.Request.{Request}
-use Rattle.streaming.specs.declared.StreamError.the-variants as error
 use Rattle.streaming.specs.declared.Asked.the-variants as asked
 use Rattle.streaming.specs.declared.Failure.{Failure}
 use Rattle.streaming.specs.declared.Failure.the-variants as failure
 use Rattle.streaming.specs.declared.FlatWalker.{FlatWalker}
 use Rattle.flat.specs.Fit.{isSound, fitOf}
-use Rattle.flat.specs.Flat.{requestAt, requestIn, requestOf}
+use Rattle.flat.specs.Flat.{requestAt, askedIf, requestIn, requestOf}
 
 -- two numbers that differ are equal nowhere: for a case that can't be, by `apart (cc)`
 pub apart : {A : Type 0} → _≡_ {A = ℕ} 0 1 → A
@@ -26,8 +25,7 @@ pub demanded : (s : FlatWalker) (r : Request) → requestOf s ≡ asked.Demand r
 unfolding requestOf if_then_else_
 demanded s r = by-failure (s .failure) refl
   where
-    by-fit : isSound (s .failure) ≡ true → (b : Bool) → fitOf s ≡ b → (if b then requestAt (s .stage) s else asked.Refused error.BadState) ≡ asked.Demand r
-        → Demanded s r
+    by-fit : isSound (s .failure) ≡ true → (b : Bool) → fitOf s ≡ b → askedIf b (requestAt (s .stage) s) ≡ asked.Demand r → Demanded s r
     by-fit k true e q = record { sound = k; fit = e; asks = q }
     by-fit k false e q = apart (cc)
 

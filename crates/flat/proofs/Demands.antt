@@ -32,7 +32,8 @@ use Rattle.object.specs.Object.{objectEnd, requestObject}
 use Rattle.object.specs.Fit.{fitObject, FitObject}
 use Rattle.flat.specs.Fit.{isTaken, fitAt}
 use Rattle.flat.specs.Flat.{requestAt, requestOf}
-use Rattle.flat.proofs.Shows.{fit-section-shows, fit-object-shows}
+use Rattle.section.proofs.Fitness.{fit-section-shows}
+use Rattle.object.proofs.Fitness.{fit-object-shows}
 use Rattle.flat.proofs.Demanded.{apart, demanded}
 use Rattle.flat.proofs.KeepingCalls.{fit-taken, fit-stage}
 

@@ -20,7 +20,7 @@ use Rattle.chunk.specs.Fit.{inChunk}
 use Rattle.object.specs.Object.{objectEnd, requestObject, settleObjectSize, settleWord, settleVerdict, settleObjectCrc, feedWord, feedObjectData, feedObjectCrc, feedObject}
 use Rattle.object.specs.Fit.{behindEntry, objectDone, objectConsistent, sizeInWords, fitObject, FitObject}
 use Rattle.flat.specs.Fit.{fitAt}
-use Rattle.flat.proofs.Shows.{fit-object-shows}
+use Rattle.object.proofs.Fitness.{fit-object-shows}
 use Rattle.flat.proofs.Keeping.{Keeps, Taken, keeps-failing, keeps-at, and-both, below, made}
 use Rattle.flat.proofs.KeepingVisit.{Led, keeps-leave-object}
 

@@ -20,9 +20,9 @@ use Rattle.rules.specs.Header.{locatorOf}
 use Rattle.rules.specs.Section.{frame, startSentinel, endSentinel}
 use Rattle.chunk.specs.Fit.{noObject, noEntry}
 use Rattle.section.specs.Section.{partOf, sectionOf, enterSection, enterNext, sectionEnd, requestSection, settleSectionSize, settleSectionCrc, settleSection, feedSectionStart, feedSectionSize, feedSectionData, feedSectionCrc, feedSectionEnd, feedSection}
-use Rattle.section.specs.Fit.{fitSection, FitSection}
+use Rattle.section.specs.Fit.{sectionDone, fitSection, FitSection}
 use Rattle.flat.specs.Fit.{fitAt}
-use Rattle.flat.proofs.Shows.{fit-section-shows}
+use Rattle.section.proofs.Fitness.{fit-section-shows}
 use Rattle.flat.proofs.Keeping.{Keeps, Taken, keeps-failing, keeps-at, and-both, below}
 
 -- the map and the objects are untouched
@@ -33,7 +33,7 @@ untouched s = noObject s && (noEntry (s .map) && eqb (s .map .chunk) 0)
 
 module _ (s : FlatWalker) (g : Stage) (taken : Taken s) (own : (t : FlatWalker) → fitAt g t ≡ fitSection t) (clear : untouched s ≡ true) where
   entered : leb frame (locatorOf (s .header) (partNumber (partOf g)) .size) ≡ true → fitSection (inUnit s g 0 0 (s .crc) (s .field)) ≡ true
-  unfolding fitSection noObject if_then_else_
+  unfolding fitSection sectionDone noObject if_then_else_
   entered e =
       let framed : frame ≤ locatorOf (s .header) (partNumber (partOf g)) .size = leb-true _ _ e in
       let inside : 0 < locatorOf (s .header) (partNumber (partOf g)) .size = omega arith in
@@ -57,13 +57,13 @@ module _ (s : FlatWalker) (taken : Taken s) (own : (t : FlatWalker) → fitAt (s
   shows = fit-section-shows s fit
 
   moved : (done size crc : ℕ) (field : List ℕ) → ltb done (sectionOf s .size) ≡ true
-      → (if ltb done 20 then eqb size 0 else eqb (frame + size) (sectionOf s .size)) ≡ true → fitSection (inUnit s (s .stage) done size crc field) ≡ true
+      → sectionDone (sectionOf s .size) done size ≡ true → fitSection (inUnit s (s .stage) done size crc field) ≡ true
   unfolding fitSection noObject
   moved done size crc field e k = search (and-both, and-left, and-right)
 
   -- the section stays in hand, before its size is whole
   before : (done crc : ℕ) (field : List ℕ) → s .done < 20 → done < 20 → Keeps (inUnit s (s .stage) done (s .size) crc field)
-  unfolding if_then_else_
+  unfolding sectionDone if_then_else_
   before done crc field early k =
       let framed = shows .framed in
       keeps-at (inUnit s (s .stage) done (s .size) crc field) taken
@@ -72,7 +72,7 @@ module _ (s : FlatWalker) (taken : Taken s) (own : (t : FlatWalker) → fitAt (s
   -- and behind it
   behind : (done size crc : ℕ) (field : List ℕ) → 20 ≤ done → frame + size ≡ sectionOf s .size → done < frame + size
       → Keeps (inUnit s (s .stage) done size crc field)
-  unfolding if_then_else_
+  unfolding sectionDone if_then_else_
   behind done size crc field late whole inside =
       keeps-at (inUnit s (s .stage) done size crc field) taken
       (own _ ∙ moved done size crc field (lt-ltb done _ (omega arith)) (rw (le-ltb done 20 late) (eq-eqb _ _ whole)))

@@ -25,7 +25,7 @@ use Rattle.streaming.specs.declared.Fed.{Fed}
 use Rattle.streaming.proofs.Choose.{in-both}
 use Rattle.account.specs.Statement.{endedBy}
 use Rattle.flat.specs.Fit.{isSound, fitOf}
-use Rattle.flat.specs.Flat.{requestAt, requestIn, requestOf, endOf, offered, feedOf}
+use Rattle.flat.specs.Flat.{requestAt, askedIf, requestIn, requestOf, endOf, offered, feedOf}
 use Rattle.flat.proofs.Demanded.{apart, demanded}
 use Rattle.flat.proofs.Keeping.{Keeps}
 use Rattle.flat.proofs.Outcomes.{StepOrFault, Outcome, outcome-at}
@@ -65,8 +65,7 @@ pub refuses : (s : FlatWalker) (e : StreamError) → requestOf s ≡ asked.Refus
 unfolding requestOf if_then_else_
 refuses s e q = by-failure (s .failure) refl q
   where
-    by-fit : isSound (s .failure) ≡ true → (b : Bool) → fitOf s ≡ b → (if b then requestAt (s .stage) s else asked.Refused error.BadState) ≡ asked.Refused e
-        → Refuses s e
+    by-fit : isSound (s .failure) ≡ true → (b : Bool) → fitOf s ≡ b → askedIf b (requestAt (s .stage) s) ≡ asked.Refused e → Refuses s e
     by-fit k true f q = apart (stage-asks (s .stage) s e q)
     by-fit k false f q = unfit k f (cc)
 

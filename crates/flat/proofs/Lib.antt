@@ -1,4 +1,3 @@
-pub mod Shows
 pub mod Keeping
 pub mod KeepingChunk
 pub mod KeepingSection
