@@ -9,3 +9,4 @@ pub mod Deltas
 pub mod Entries
 pub mod Chunks
 pub mod Walk
+pub mod Meets
