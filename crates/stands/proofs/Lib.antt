@@ -9,5 +9,6 @@ pub mod Deltas
 pub mod Entries
 pub mod Chunks
 pub mod Walk
+pub mod Meets
 pub mod Fronts
 pub mod Main

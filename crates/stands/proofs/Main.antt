@@ -15,25 +15,21 @@ use Rattle.streaming.specs.declared.Fault.{Fault}
 use Rattle.account.specs.Account.{recordsIn, endingOf, saysAt, broken}
 use Rattle.account.specs.Statement.{Call, takes, Walker, HonestCall, Honest, Meets}
 use Rattle.account.specs.Runs.{run, bytes, committed, accepted, Past, Whole, Front, Repeats, Alike}
-use Rattle.account.proofs.Walking.{walkerOf, walker-meets}
 use Rattle.account.proofs.Main as A
 use Rattle.rules.specs.Source.{Of}
 use Rattle.rules.specs.Header.{locatorOf, mapSize}
 use Rattle.rules.specs.Rules.{rules}
 use Rattle.rules.specs.PlainList.{Listing, plainList}
 use Rattle.rules.proofs.Main as R
-use Rattle.flat.specs.Flat.{startOf}
-use Rattle.stands.proofs.Bare.{bare}
-use Rattle.stands.proofs.Walk.{walk-on}
-use Rattle.stands.proofs.Fitness.{begun, flatWalker, meets-flat}
+use Rattle.stands.proofs.Fitness.{begun, flatWalker}
+use Rattle.stands.proofs.Meets.{flat-meets}
 use Rattle.stands.proofs.Fronts.{front-objects}
 
 -- ---- the walk meets the rules
 
 -- Call by call, the walk asks and answers what the rules' account says, the end of input too. The test of fitness is in it: 19 never comes.
 pub meets : Meets Of rules flatWalker
-unfolding startOf
-meets = meets-flat (walker-meets bare begun Of rules λ h src of. walk-on h src)
+meets = flat-meets
 
 module _ (h : FlatHeader) where
   -- ---- demand 3
