@@ -7,7 +7,7 @@ use Rattle.object.proofs.verdict.settle_object_crc.Statement.{statement
 use Rattle.object.proofs.verdict.settle_object_crc.Tie as tie
 use Rattle.object.proofs.verdict.settle_object_crc.Reads as reads
 use Rattle.object.proofs.verdict.settle_object_crc.Lts as lts
-use Rattle.object.proofs.fell.Reads as fell-reads
+use Rattle.streaming.proofs.fell.Reads as fell-reads
 use Rattle.object.proofs.verdict.judge.Reads as judge-reads
 use Rattle.object.proofs.verdict.settle_verdict.Reads as settle-verdict-reads
 

@@ -7,7 +7,7 @@ use Rattle.object.proofs.verdict.settle_verdict.Statement.{statement}
 use Rattle.object.proofs.verdict.settle_verdict.Tie as tie
 use Rattle.object.proofs.verdict.settle_verdict.Reads as reads
 use Rattle.object.proofs.verdict.settle_verdict.Lts as lts
-use Rattle.object.proofs.fell.Reads as fell-reads
+use Rattle.streaming.proofs.fell.Reads as fell-reads
 use Rattle.object.proofs.verdict.leave_object.Reads as leave-object-reads
 
 -- src/verdict.rt:98:23

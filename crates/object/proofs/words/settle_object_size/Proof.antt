@@ -8,7 +8,7 @@ use Rattle.object.proofs.words.settle_object_size.Statement.{statement}
 use Rattle.object.proofs.words.settle_object_size.Tie as tie
 use Rattle.object.proofs.words.settle_object_size.Reads as reads
 use Rattle.object.proofs.words.settle_object_size.Lts as lts
-use Rattle.object.proofs.fell.Reads as fell-reads
+use Rattle.streaming.proofs.fell.Reads as fell-reads
 use Rattle.object.proofs.words.may_end.Reads as may-end-reads
 
 -- src/words.rt:35:9

@@ -8,7 +8,7 @@ use Rattle.object.proofs.words.settle_word.Statement.{statement}
 use Rattle.object.proofs.words.settle_word.Tie as tie
 use Rattle.object.proofs.words.settle_word.Reads as reads
 use Rattle.object.proofs.words.settle_word.Lts as lts
-use Rattle.object.proofs.fell.Reads as fell-reads
+use Rattle.streaming.proofs.fell.Reads as fell-reads
 use Rattle.object.proofs.words.settle_object_size.Reads as settle-object-size-reads
 use Rattle.object.proofs.words.with_word.Reads as with-word-reads
 
