@@ -31,7 +31,9 @@ pub fn may_start(h: FlatHeader, location: u64) -> bool
 {
     let from = map_start(h);
     let end = map_end(h);
-    (header_end(h) <= location) & (location + 2 <= h.length) & !((from <= location) & (location < end))
+    (header_end(h) <= location)
+        & (location + 2 <= h.length)
+        & !((from <= location) & (location < end))
 }
 
 // An object is entered at once: a location where none may start is answered by the call that brings it.
