@@ -1,5 +1,6 @@
 // Answers calls of the walk, one after another, so that every answer can be compared with the Rust's (oracle/README.md has the form `replay`).
 mod form;
+mod parse;
 
 fn main() {
     let mut input = io::large_buffer();
