@@ -13,9 +13,6 @@ use native.Mathlib.Omega.{arith}
 use borrow.Author.Tests.{lt-ltb, le-ltb, leb-true, leb-false}
 use Rattle.io.specs.Digits.{glyph, digits, Fewest}
 use Rattle.streaming.specs.Choose.{if_then_else_}
-use Rattle.streaming.specs.Numbers.{faultNumber, faultFields, numberOf, fieldsOf}
-use Rattle.streaming.specs.declared.Fault.{Fault}
-use Rattle.streaming.specs.declared.StreamError.{StreamError}
 use Rattle.lines.specs.Line.{digitsIn, decimalOf, spaced, lineOf}
 
 -- ---- decimal text
@@ -105,10 +102,7 @@ module _ (numbers : List ℕ) where
   unfolding lineOf
   line-end l out letter at i count h k e p = rw (add-one, take-suc-set out at 10 k, p, take-suc-set l 0 letter h, e)
 
--- ---- the line of a refusal, where it is known which
+-- ---- the line of a value, where it is known which value
 
-pub fault-told : (f g : Fault) (t : List ℕ) → f ≡ g → t ≡ lineOf 88 (faultNumber g ∷ faultFields g) → t ≡ lineOf 88 (faultNumber f ∷ faultFields f)
-fault-told f g t e h = h ∙ ap (λ (x : Fault). lineOf 88 (faultNumber x ∷ faultFields x)) (sym e)
-
-pub refusal-told : (f g : StreamError) (t : List ℕ) → f ≡ g → t ≡ lineOf 88 (numberOf g ∷ fieldsOf g) → t ≡ lineOf 88 (numberOf f ∷ fieldsOf f)
-refusal-told f g t e h = h ∙ ap (λ (x : StreamError). lineOf 88 (numberOf x ∷ fieldsOf x)) (sym e)
+pub told : {A : Type 0} (text : A → List ℕ) (x y : A) (t : List ℕ) → x ≡ y → t ≡ text y → t ≡ text x
+told text x y t e h = h ∙ ap text (sym e)

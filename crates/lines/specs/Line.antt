@@ -4,6 +4,9 @@ use mathlib.Core.List.{List, [], _∷_, _++_}
 use lib.ListN.{take}
 use lib.Dec.{ltb}
 use Rattle.streaming.specs.Choose.{if_then_else_}
+use Rattle.streaming.specs.Numbers.{numberOf, fieldsOf, faultNumber, faultFields}
+use Rattle.streaming.specs.declared.Fault.{Fault}
+use Rattle.streaming.specs.declared.StreamError.{StreamError}
 use Rattle.lines.specs.declared.Line.{Line}
 
 -- the digits of n: those of n / 10, and then its last one; 48 is the code of the digit 0
@@ -27,3 +30,10 @@ lineOf letter numbers = letter ∷ spaced numbers ++ (10 ∷ [])
 -- the text of a line
 abbrev pub textOf : Line → List ℕ
 textOf l = lineOf (l .letter) (take (l .count) (l .numbers))
+
+-- the line of a refusal: `X`, whose code is 88, its number and its values
+abbrev pub faultLine : Fault → List ℕ
+faultLine f = lineOf 88 (faultNumber f ∷ faultFields f)
+
+abbrev pub refusalLine : StreamError → List ℕ
+refusalLine e = lineOf 88 (numberOf e ∷ fieldsOf e)

@@ -1,10 +1,7 @@
 // The line of a refusal: `X`, its number and its values, in document 01's order.
 ghost use mathlib.Core.Path.{_≡_};
-ghost use mathlib.Core.List.{_∷_};
-ghost use Rattle.streaming.specs.Numbers.{numberOf, fieldsOf, faultNumber, faultFields};
-ghost use Rattle.lines.specs.Line.{lineOf, textOf};
+ghost use Rattle.lines.specs.Line.{faultLine, refusalLine, textOf};
 use crate::Line;
-use crate::bare;
 use crate::with_four;
 use crate::with_one;
 use crate::with_three;
@@ -13,7 +10,7 @@ use streaming::Fault;
 use streaming::StreamError;
 
 fn fault(f: Fault) -> Line
-    ensures { λ r. ⌜ textOf r ≡ lineOf 88 (faultNumber f ∷ faultFields f) ⌝ }
+    ensures { λ r. ⌜ textOf r ≡ faultLine f ⌝ }
 {
     match f {
         Fault::SectionSize(part) => with_two(b'X', 7, part as u64),
@@ -43,7 +40,7 @@ fn fault(f: Fault) -> Line
 }
 
 pub fn refusal(e: StreamError) -> Line
-    ensures { λ r. ⌜ textOf r ≡ lineOf 88 (numberOf e ∷ fieldsOf e) ⌝ }
+    ensures { λ r. ⌜ textOf r ≡ refusalLine e ⌝ }
 {
     match e {
         StreamError::LocatorCount(count) => with_two(b'X', 1, count as u64),
