@@ -1,6 +1,8 @@
 // Answers calls of the walk, one after another, so that every answer can be compared with the Rust's (oracle/README.md has the form `replay`).
+mod answer;
 mod form;
 mod parse;
+mod said;
 
 fn main() {
     let mut input = io::large_buffer();
