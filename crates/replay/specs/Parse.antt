@@ -27,9 +27,10 @@ locatorAt s at = record { number = getD s at 0; offset = numberAt s (at + 1) 4; 
 -- a header, 69 bytes at place 1: six locators, whatever the count
 unfoldable pub headerIn : List ℕ → FlatHeader
 headerIn s = record {
-  magic = bytesAt s 1 6; count = getD s 7 0;
+  magic = bytesAt s 1 6;
+  count = getD s 7 0;
   locators = locatorAt s 8 ∷ locatorAt s 17 ∷ locatorAt s 26 ∷ locatorAt s 35 ∷ locatorAt s 44 ∷ locatorAt s 53 ∷ [];
-  length = numberAt s 62 8
+  length = numberAt s 62 8;
 }
 
 -- 1 to 6, in the walk's order
@@ -44,14 +45,29 @@ stageIn n =
 -- the map's cursor, 46 bytes at place 111
 unfoldable pub cursorIn : List ℕ → MapCursor
 cursorIn s = record {
-  chunk = numberAt s 111 8; len = numberAt s 119 4; at = numberAt s 123 8; handle = numberAt s 131 8; loc = numberAt s 139 8; mc = numberAt s 147 8;
-  shift = getD s 155 0; field = getD s 156 0
+  chunk = numberAt s 111 8;
+  len = numberAt s 119 4;
+  at = numberAt s 123 8;
+  handle = numberAt s 131 8;
+  loc = numberAt s 139 8;
+  mc = numberAt s 147 8;
+  shift = getD s 155 0;
+  field = getD s 156 0;
 }
 
 -- a state, 87 bytes at place 70, behind its header
 unfoldable pub stateIn : List ℕ → FlatWalker
 stateIn s = record {
-  header = headerIn s; stage = stageIn (getD s 70 0); done = numberAt s 71 4; size = numberAt s 75 4; crc = numberAt s 79 2;
-  field = bytesAt s 81 4; head = bytesAt s 85 16; object = numberAt s 101 8; «ms_len» = getD s 109 0; words = getD s 110 0;
-  map = cursorIn s; failure = failure.None
+  header = headerIn s;
+  stage = stageIn (getD s 70 0);
+  done = numberAt s 71 4;
+  size = numberAt s 75 4;
+  crc = numberAt s 79 2;
+  field = bytesAt s 81 4;
+  head = bytesAt s 85 16;
+  object = numberAt s 101 8;
+  «ms_len» = getD s 109 0;
+  words = getD s 110 0;
+  map = cursorIn s;
+  failure = failure.None;
 }

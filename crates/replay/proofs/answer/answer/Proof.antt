@@ -16,45 +16,50 @@ begin-requires c κs = has-header (c .before .before .before .args .s .now) (c .
 
 returns : tie.Need-returns
 unfolding answerLine handAfter if_then_else_
-returns c = 
-    (rw (eq-eqb _ _ (c .before .if1 .taken)) (c .begin .ensures .0),
-    rw (eq-eqb _ _ (c .before .if1 .taken)) (c .begin .ensures .1))
+returns c = (
+  rw (eq-eqb _ _ (c .before .if1 .taken)) (c .begin .ensures .0),
+  rw (eq-eqb _ _ (c .before .if1 .taken)) (c .begin .ensures .1),
+)
 
 take-in-requires : tie.Need-take-in-requires
 take-in-requires c κs = has-state (c .before .before .before .before .args .s .now) (c .before .before .before .before .pre) (c .if2 .taken)
 
 returns-2 : tie.Need-returns-2
 unfolding answerLine handAfter if_then_else_
-returns-2 c = 
-    (rw (ne-eqb _ _ (c .before .before .if1 .left), eq-eqb _ _ (c .before .if2 .taken)) (c .take-in .ensures .0),
-    rw (ne-eqb _ _ (c .before .before .if1 .left), eq-eqb _ _ (c .before .if2 .taken)) (c .take-in .ensures .1))
+returns-2 c = (
+  rw (ne-eqb _ _ (c .before .before .if1 .left), eq-eqb _ _ (c .before .if2 .taken)) (c .take-in .ensures .0),
+  rw (ne-eqb _ _ (c .before .before .if1 .left), eq-eqb _ _ (c .before .if2 .taken)) (c .take-in .ensures .1),
+)
 
 go-on-requires : tie.Need-go-on-requires
 go-on-requires c κs = has-piece (c .before .before .before .before .before .before .before .args .s .now) (c .before .before .before .before .before .before .before .pre) (c .if4 .taken)
 
 returns-3 : tie.Need-returns-3
 unfolding answerLine handAfter if_then_else_
-returns-3 c = 
-    (rw (ne-eqb _ _ (c .before .before .before .before .before .if1 .left), ne-eqb _ _ (c .before .before .before .before .if2 .left), c .before .before .if3 .taken, eq-eqb _ _ (c .before .if4 .taken)) (c .go-on .ensures .0),
-    rw (ne-eqb _ _ (c .before .before .before .before .before .if1 .left), ne-eqb _ _ (c .before .before .before .before .if2 .left), c .before .before .if3 .taken, eq-eqb _ _ (c .before .if4 .taken)) (c .go-on .ensures .1))
+returns-3 c = (
+  rw (ne-eqb _ _ (c .before .before .before .before .before .if1 .left), ne-eqb _ _ (c .before .before .before .before .if2 .left), c .before .before .if3 .taken, eq-eqb _ _ (c .before .if4 .taken)) (c .go-on .ensures .0),
+  rw (ne-eqb _ _ (c .before .before .before .before .before .if1 .left), ne-eqb _ _ (c .before .before .before .before .if2 .left), c .before .before .if3 .taken, eq-eqb _ _ (c .before .if4 .taken)) (c .go-on .ensures .1),
+)
 
 ask-requires : tie.Need-ask-requires
 ask-requires c κs = search needs
 
 returns-4 : tie.Need-returns-4
 unfolding answerLine handAfter if_then_else_
-returns-4 c = 
-    (rw (ne-eqb _ _ (c .before .before .before .before .before .if1 .left), ne-eqb _ _ (c .before .before .before .before .if2 .left), c .before .before .if3 .taken, ne-eqb _ _ (c .before .if4 .left)) (c .ask .ensures),
-    rw (ne-eqb _ _ (c .before .before .before .before .before .if1 .left), ne-eqb _ _ (c .before .before .before .before .if2 .left), c .before .before .if3 .taken, ne-eqb _ _ (c .before .if4 .left)) refl)
+returns-4 c = (
+  rw (ne-eqb _ _ (c .before .before .before .before .before .if1 .left), ne-eqb _ _ (c .before .before .before .before .if2 .left), c .before .before .if3 .taken, ne-eqb _ _ (c .before .if4 .left)) (c .ask .ensures),
+  rw (ne-eqb _ _ (c .before .before .before .before .before .if1 .left), ne-eqb _ _ (c .before .before .before .before .if2 .left), c .before .before .if3 .taken, ne-eqb _ _ (c .before .if4 .left)) refl,
+)
 
 bare-requires : tie.Need-bare-requires
 bare-requires c κs = search needs
 
 returns-5 : tie.Need-returns-5
 unfolding answerLine handAfter if_then_else_
-returns-5 c = 
-    (rw (ne-eqb _ _ (c .before .before .before .before .if1 .left), ne-eqb _ _ (c .before .before .before .if2 .left), c .before .if3 .left) (c .bare .ensures),
-    rw (ne-eqb _ _ (c .before .before .before .before .if1 .left), ne-eqb _ _ (c .before .before .before .if2 .left), c .before .if3 .left) refl)
+returns-5 c = (
+  rw (ne-eqb _ _ (c .before .before .before .before .if1 .left), ne-eqb _ _ (c .before .before .before .if2 .left), c .before .if3 .left) (c .bare .ensures),
+  rw (ne-eqb _ _ (c .before .before .before .before .if1 .left), ne-eqb _ _ (c .before .before .before .if2 .left), c .before .if3 .left) refl,
+)
 
 pub answer-spec : {M : Type 1} → statement M
 answer-spec =

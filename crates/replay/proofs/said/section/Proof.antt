@@ -17,7 +17,7 @@ with-three-requires : tie.Need-with-three-requires
 with-three-requires c κs = search needs
 
 returns : tie.Need-returns
-returns c = 
+returns c =
     let r = c .before .before .before .args .r in
     c .with-three .ensures ∙ ap (λ (n : ℕ). lineOf 83 (n ∷ r .«data_offset» ∷ r .size ∷ [])) (c .before .before .number .ensures)
 
