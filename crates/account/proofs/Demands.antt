@@ -4,7 +4,7 @@ use mathlib.Core.Bool.{Bool, true, false}
 use mathlib.Core.List.{List, [], _∷_}
 use mathlib.Core.Path.{_≡_, refl, sym, ap, ap₂, _∙_}
 use native.Mathlib.Omega.{arith}
-use native.Mathlib.Nat.{add-zero}
+use native.Mathlib.Nat.{add-zero, zero-add, suc-add}
 use lib.ListN.{length, getD, take, drop}
 use lib.Dec.{eqb}
 use borrow.Author.Tests.{lt-ltb, eq-eqb, ne-eqb, eqb-true, eqb-false}
@@ -12,7 +12,7 @@ use Rattle.streaming.specs.Choose.{if_then_else_}
 use Rattle.streaming.specs.declared.Fault.{Fault}
 use Rattle.streaming.specs.declared.Answer.{Answer}
 use Rattle.account.specs.Account.{Account, ask, over, framing, faulted, broken, passed, saysAt}
-use Rattle.account.specs.Asking.{Turn, saysBefore, span, oneByOne, spell}
+use Rattle.account.specs.Asking.{Turn, go, saysBefore, askByte, span, oneByOne, spell}
 use Rattle.account.specs.Statement.{part}
 use Rattle.account.proofs.Parts.{part-cons}
 
@@ -47,6 +47,24 @@ module _ (src : List ℕ) where
   pub one-cons : (at m : ℕ) (t : Turn) → at < length src → oneByOne src at (suc m) t ≡ ask at 1 (saysBefore m framing t) (oneByOne src (suc at) m t)
   unfolding oneByOne if_then_else_
   one-cons at m t h = rw (lt-ltb at (length src) h)
+
+  -- one of them alone
+  pub one-span : (at : ℕ) (t : Turn) → oneByOne src at 1 t ≡ span src at 1 framing t
+  unfolding oneByOne span
+  one-span at t = refl
+
+  -- some of them, then the others
+  pub one-add : (at m n : ℕ) (t : Turn) → 0 < n → oneByOne src at (m + n) t ≡ oneByOne src at m (go framing (oneByOne src (at + m) n t))
+  unfolding oneByOne
+  one-add at zero n t h = rw (zero-add, add-zero)
+  one-add at (suc m) n t h =
+      let x : suc at + m ≡ at + suc m = omega arith in
+      rw (suc-add, ← x) (ap₂ (askByte src at 1) (plain m n _ h) (one-add (suc at) m n t h))
+    where
+      plain : (m n : ℕ) (a : Account) → 0 < n → saysBefore (m + n) framing t ≡ saysBefore m framing (go framing a)
+      plain zero (suc n) a h = rw zero-add
+      plain zero zero a h = absurd (omega arith)
+      plain (suc m) n a h = rw suc-add
 
   -- ---- given bytes
 

@@ -8,7 +8,7 @@ use native.Mathlib.Omega.{arith}
 use lib.ListN.{length, drop, getD, length-take, length-drop}
 use lib.Dec.{eqb}
 use borrow.Author.Tests.{eqb-true, eqb-false}
-use lib.Seq.{take-suc, take-add, drop-cons, drop-drop, getD-drop}
+use lib.Seq.{take-suc, take-add, drop-cons, drop-drop, drop-at, getD-drop}
 use Rattle.account.specs.Statement.{part}
 
 pub length-part : (src : List ℕ) (at n : ℕ) → n ≤ length src - at → length (part src at n) ≡ n
@@ -42,6 +42,12 @@ read-part src at (b ∷ bs) e = (h, cc e′, read-part src (suc at) bs (cc e′)
 -- a part in two
 pub part-add : (src : List ℕ) (at d k : ℕ) → part src at d ++ part src (at + d) k ≡ part src at (d + k)
 part-add src at d k = sym (take-add d k (drop at src) ∙ rw drop-drop)
+
+pub part-drop : (src : List ℕ) (at m n : ℕ) → m ≤ n → at + n ≤ length src → drop m (part src at n) ≡ part src (at + m) (n - m)
+part-drop src at m n h k =
+    let x : n ≡ m + (n - m) = omega arith in
+    let y : part src at n ≡ part src at m ++ part src (at + m) (n - m) = ap (part src at) x ∙ sym (part-add src at m (n - m)) in
+    rw y (drop-at (part src at m) _ m (length-part src at m (omega arith)))
 
 -- two lists of bytes are the same, or not
 abbrev pub same-cons : (x y : ℕ) (xs ys : List ℕ) (b : Bool) → eqb x y ≡ b → (xs ≡ ys) ⊎ (xs ≡ ys → ⊥) → (x ∷ xs ≡ y ∷ ys) ⊎ (x ∷ xs ≡ y ∷ ys → ⊥)

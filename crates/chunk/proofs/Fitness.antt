@@ -39,13 +39,23 @@ fit-chunk-shows s e =
     let few : s .done < 2 = ltb-true _ _ t in
     let none : s .size ≡ 0 = eqb-true _ _ k in
     record {
-      low = p .low; room = p .room; early = λ _. none; least = λ l. omega arith;
-      most = omega arith; inside = omega arith; within = omega arith;
+      low = p .low;
+      room = p .room;
+      early = λ _. none;
+      least = λ l. omega arith;
+      most = omega arith;
+      inside = omega arith;
+      within = omega arith;
     })
     (λ t k.
     let many : 2 ≤ s .done = ltb-false _ _ t in
     record {
-      low = p .low; room = p .room; early = λ l. absurd (omega arith); least = λ _. search shown;
-      most = search shown; inside = search shown; within = search shown;
+      low = p .low;
+      room = p .room;
+      early = λ l. absurd (omega arith);
+      least = λ _. search shown;
+      most = search shown;
+      inside = search shown;
+      within = search shown;
     })
     (p .done)

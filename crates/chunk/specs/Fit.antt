@@ -23,7 +23,7 @@ noEntry m =
     (eqb (m .len) 0 && eqb (m .at) 0 && eqb (m .handle) 0 && eqb (m .loc) 0)
     && (eqb (m .mc) 0 && eqb (m .shift) 0 && eqb (m .field) 0)
 
--- how far the chunk is: its size, once it is known, fits the map, which ends there
+-- the chunk is as far as a walk can be: its size, once it is known, fits a map that ends there
 unfoldable pub chunkDone : (end chunk done size : ℕ) → Bool
 chunkDone end chunk done size =
     if ltb done 2 then eqb size 0

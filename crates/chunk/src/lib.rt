@@ -55,6 +55,7 @@ pub fn enter_chunk(s: FlatWalker, chunk: u64) -> FlatWalker
     }
 }
 
+// The demand: what is left of the size, of the entries or of the checksum.
 pub fn request_chunk(s: FlatWalker) -> Request
     requires { ⌜ FitChunk s ⌝ }
     ensures { λ r. ⌜ r ≡ requestChunk s ⌝ }
@@ -183,7 +184,7 @@ pub fn in_chunk(h: FlatHeader, m: MapCursor) -> bool
     ((3 <= len) & (len <= 2034)) & ((start <= m.chunk) & (m.chunk + len + 2 <= end))
 }
 
-// How far the chunk is: its size, once it is known, fits the map, which ends there.
+// Whether the chunk is as far as a walk can be: its size, once it is known, fits a map that ends there.
 fn chunk_done(end: u64, chunk: u64, done: u32, size: u32) -> bool
     requires { ⌜ chunk < 2 ^ 33 ⌝ }
     ensures { λ r. ⌜ r ≡ chunkDone end chunk done size ⌝ }
@@ -191,10 +192,11 @@ fn chunk_done(end: u64, chunk: u64, done: u32, size: u32) -> bool
     if done < 2 {
         return size == 0;
     }
-    ((2 <= size) & (size <= 2034)) & ((chunk + size as u64 + 2 <= end) & ((done as u64) < size as u64 + 2))
+    ((2 <= size) & (size <= 2034))
+        & ((chunk + size as u64 + 2 <= end) & ((done as u64) < size as u64 + 2))
 }
 
-// Whether a walk can reach the state, in this stage.
+// Whether a walk can reach the state in this stage.
 pub fn fit_chunk(s: FlatWalker) -> bool
     ensures { λ r. ⌜ (r ≡ fitChunk s) × (r ≡ true → FitChunk s) ⌝ }
 {

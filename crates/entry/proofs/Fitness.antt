@@ -1,9 +1,8 @@
--- What the test of `specs/Fit.antt` shows.
-use Prim.Native.Nat.{_+_, _%_, _^_, _-_, _≤_, _<_}
+-- What the test `fitEntry` shows.
+use Prim.Native.Nat.{_-_, _^_, _≤_}
 use mathlib.Core.Bool.{true}
 use mathlib.Core.Path.{_≡_}
 use native.Mathlib.Omega.{arith}
-use borrow.Author.Tests.{leb-true}
 use Rattle.streaming.proofs.Cases.{shown}
 use Rattle.streaming.specs.declared.FlatWalker.{FlatWalker}
 use Rattle.chunk.proofs.Fitness.{in-chunk-shows}

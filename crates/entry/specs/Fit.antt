@@ -3,7 +3,6 @@ use Prim.Native.Nat.{ℕ, _+_, _-_, _%_, _^_, _≤_, _<_}
 use mathlib.Core.Bool.{Bool, _&&_}
 use mathlib.Core.Path.{_≡_}
 use lib.Dec.{ltb, leb, eqb}
-use Rattle.streaming.specs.declared.MapCursor.{MapCursor}
 use Rattle.streaming.specs.declared.FlatWalker.{FlatWalker}
 use Rattle.chunk.specs.Fit.{inChunk, InChunk}
 

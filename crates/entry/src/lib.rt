@@ -7,14 +7,13 @@ ghost use Rattle.entry.specs.Entry.{requestEntry, bitsOf, atLast, movedB
 ghost use Rattle.entry.specs.Entry.{refusedEntry, settleLocation, settleHandle, moreGroups, settleGroup, feedEntry};
 ghost use Rattle.entry.specs.Fit.{atByte, entryConsistent, fitEntry, FitEntry};
 use streaming::Answer;
-use streaming::Failure;
 use streaming::Fault;
 use streaming::Fed;
 use streaming::FlatWalker;
 use streaming::MapCursor;
 use streaming::Request;
 use streaming::Step;
-use streaming::StreamError;
+use streaming::fell;
 
 // The farthest location.
 const FARTHEST: u64 = i64::MAX as u64;
@@ -25,6 +24,7 @@ pub enum Moved {
     Nowhere,
 }
 
+// An entry is asked for one byte at a time.
 pub fn request_entry(s: FlatWalker) -> Request
     ensures { λ r. ⌜ r ≡ requestEntry s ⌝ }
 {
@@ -92,14 +92,7 @@ fn refused_entry(s: FlatWalker) -> Fed
     ensures { λ r. ⌜ r ≡ refusedEntry s ⌝ }
 {
     let m = s.map;
-    let f = Fault::MapEntry(m.at);
-    Fed {
-        answer: Answer::Refused(StreamError::Fault(f)),
-        state: FlatWalker {
-            failure: Failure::Held(f),
-            ..s
-        },
-    }
+    fell(Fault::MapEntry(m.at), s)
 }
 
 // The location is whole: its object is entered at once.

@@ -1,2 +1,2 @@
-pub mod Keeping
-pub mod KeepingChunk
+pub mod Calls
+pub mod Taking

@@ -1,6 +1,6 @@
 -- The walk by calls: what the contracts of `start`, `request`, `feed` and `end_of_input` cite.
 use Prim.Native.Nat.{ℕ}
-use mathlib.Core.Bool.{_&&_}
+use mathlib.Core.Bool.{Bool, _&&_}
 use mathlib.Core.List.{List}
 use lib.ListN.{length, getD, replicate}
 use lib.Dec.{ltb, leb, eqb}
@@ -51,10 +51,14 @@ requestAt stage.Entry s = asked.Demand (requestEntry s)
 requestAt stage.Object s = asked.Demand (requestObject s)
 requestAt stage.Done s = asked.Nothing
 
+-- what a fit state asks for, and 19 for any other
+abbrev pub askedIf : (fit : Bool) → Asked → Asked
+askedIf fit q = if fit then q else asked.Refused error.BadState
+
 -- the held failure, then 19, then the stage
 abbrev pub requestIn : Failure → FlatWalker → Asked
 requestIn (failure.Held f) s = asked.Refused (error.Fault f)
-requestIn failure.None s = if fitOf s then requestAt (s .stage) s else asked.Refused error.BadState
+requestIn failure.None s = askedIf (fitOf s) (requestAt (s .stage) s)
 
 unfoldable pub requestOf : FlatWalker → Asked
 requestOf s = requestIn (s .failure) s
@@ -73,15 +77,22 @@ feedAt stage.Entry s piece = feedEntry s (getD piece 0 0)
 feedAt stage.Object s piece = feedObject s piece
 feedAt stage.Done s piece = refusedBy error.Finished s
 
--- by what is asked for: 3, 4, 5, then the rules
-abbrev pub offered : Asked → FlatWalker → (offset : ℕ) (piece : List ℕ) → Fed
-offered (asked.Demand r) s offset piece =
+-- a demand's own refusals: 4, then 5; else what the piece does
+abbrev pub offeredTo : Request → FlatWalker → (offset : ℕ) (piece : List ℕ) → Fed → Fed
+offeredTo r s offset piece taken =
     if eqb offset (r .offset) then
-    (if ltb 0 (length piece) && leb (length piece) (r .len) then feedAt (s .stage) s piece
+    (if ltb 0 (length piece) && leb (length piece) (r .len) then taken
     else refusedBy (error.InvalidFeed (r .len) (length piece)) s)
     else refusedBy (error.WrongOffset (r .offset) offset) s
-offered asked.Nothing s offset piece = refusedBy error.Finished s
-offered (asked.Refused e) s offset piece = refusedBy e s
+
+-- by what is asked for: 3, 4, 5, then the rules
+abbrev pub offeredBy : Stage → Asked → FlatWalker → (offset : ℕ) (piece : List ℕ) → Fed
+offeredBy g (asked.Demand r) s offset piece = offeredTo r s offset piece (feedAt g s piece)
+offeredBy g asked.Nothing s offset piece = refusedBy error.Finished s
+offeredBy g (asked.Refused e) s offset piece = refusedBy e s
+
+abbrev pub offered : Asked → FlatWalker → (offset : ℕ) (piece : List ℕ) → Fed
+offered q s offset piece = offeredBy (s .stage) q s offset piece
 
 -- the held failure and 19 are what `request` says too
 unfoldable pub feedOf : FlatWalker → (offset : ℕ) (piece : List ℕ) → Fed

@@ -1,6 +1,7 @@
 -- Stage Object: what is asked for in an object, and what a piece of it does.
 use Prim.Native.Nat.{ℕ, _+_, _*_, _-_, _%_, _^_, min}
 use mathlib.Core.List.{List}
+use mathlib.Core.Option.{Option}
 use lib.ListN.{length, take}
 use lib.Seq.{sets}
 use lib.Dec.{ltb, eqb}
@@ -18,9 +19,11 @@ use Rattle.streaming.specs.declared.FlatWalker.{FlatWalker}
 use Rattle.streaming.specs.declared.Fed.{Fed}
 use Rattle.rules.specs.Bytes.{seed}
 use Rattle.rules.specs.Header.{isR2000}
-use Rattle.rules.specs.Prologue.{prologueOf}
+use Rattle.rules.specs.Prologue.{Prologue, prologueOf}
 use Rattle.rules.specs.Object.{isLast, mayStart, mayEnd, Verdict, holds, fails, named}
 use Rattle.chunk.specs.Chunk.{enterChunk}
+use Rattle.object.specs.declared.verdict.Judged.{Judged}
+use Rattle.object.specs.declared.verdict.Judged.the-variants as judged
 
 -- ---- entering one, and what follows it
 
@@ -48,6 +51,15 @@ requestObject s = record { offset = s .object + s .done; len = objectEnd (s .don
 
 -- ---- what a piece does
 
+-- the prologue of the data, whose first 16 bytes are kept
+abbrev pub keptPrologue : FlatWalker → Option Prologue
+keptPrologue s = prologueOf (isR2000 (s .header)) (take (min (s .size) 16) (s .head))
+
+-- the code's word for the rules' verdict
+abbrev pub verdictOf : Judged → Verdict
+verdictOf (judged.Holds r) = holds r
+verdictOf (judged.Fails f) = fails f
+
 module _ (s : FlatWalker) where
   -- the size is known, and with it the object's end
   unfoldable pub settleObjectSize : (done size crc : ℕ) (field : List ℕ) → Fed
@@ -72,11 +84,11 @@ module _ (s : FlatWalker) where
       stepped (step.Object r) (leaveObject (inUnit s (s .stage) (s .«ms_len» + s .size + 2) (s .size) (s .crc) field))
   settleVerdict field (fails f) = fell f s
 
-  -- the checksum is whole: then the prologue decides, of the first 16 bytes of data
+  -- the checksum is whole: then the prologue decides
   unfoldable pub settleObjectCrc : (field : List ℕ) (stored : ℕ) → Fed
   settleObjectCrc field stored =
       if eqb stored (s .crc) then
-      settleVerdict field (named (s .map .handle) (s .object) (s .size) (prologueOf (isR2000 (s .header)) (take (min (s .size) 16) (s .head))))
+      settleVerdict field (named (s .map .handle) (s .object) (s .size) (keptPrologue s))
       else fell (fault.ObjectCrc (s .map .handle) (s .crc) stored) s
 
   module _ (piece : List ℕ) where

@@ -7,7 +7,7 @@ use lib.ListN.{length, take}
 use Rattle.streaming.specs.Record.{objectsIn}
 use Rattle.streaming.specs.declared.FlatHeader.{FlatHeader}
 use Rattle.streaming.specs.declared.Asked.the-variants as asked
-use Rattle.account.specs.Account.{demand, recordsWithin, bytesTaken, payloadTaken}
+use Rattle.account.specs.Account.{demand, recordsWithin, bytesAtMost, payloadTaken}
 use Rattle.account.specs.Tidy.{Tidy}
 use Rattle.rules.specs.Header.{locatorOf, mapStart, mapSize}
 use Rattle.rules.specs.Source.{Of}
@@ -59,7 +59,7 @@ commits-last = LastByte.commits-last
 
 -- A walk takes at most the bytes of both sections, of the map twice, and of the source once for every two bytes of the map.
 pub bytes-bound : (h : FlatHeader) (src : List ℕ)
-    → bytesTaken (rules h src) ≤ locatorOf h 0 .size + locatorOf h 1 .size + 2 * mapSize h + mapSize h / 2 * h .length
+    → bytesAtMost (rules h src) ≤ locatorOf h 0 .size + locatorOf h 1 .size + 2 * mapSize h + mapSize h / 2 * h .length
 bytes-bound = Bound.bytes-bound
 
 -- After any number of bytes, the payload is the sizes of what was committed and what was taken of the unit in hand.

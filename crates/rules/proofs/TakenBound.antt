@@ -11,7 +11,7 @@ use Rattle.streaming.specs.declared.Part.{Part}
 use Rattle.streaming.specs.declared.Part.the-variants.{HeaderVars, Classes}
 use Rattle.streaming.specs.declared.FlatHeader.{FlatHeader}
 use Rattle.streaming.proofs.Choose.{in-both}
-use Rattle.account.specs.Account.{Account, framing, bytesTaken}
+use Rattle.account.specs.Account.{Account, framing, bytesAtMost}
 use Rattle.account.specs.Asking.{span}
 use Rattle.rules.specs.Header.{locatorOf, mapStart, mapSize, mapEnd}
 use Rattle.rules.specs.Section.{startSentinel, endSentinel, frame, sectionSize}
@@ -34,7 +34,7 @@ module _ (src : List ℕ) (p : Part) (is : IsSection p) (start total m : ℕ) (n
   data-takes : (size : ℕ) → Takes (size + (2 + (16 + m))) (askSectionData src p start next size)
   unfolding askSectionData sectionCrcTurn askSectionEnd
   data-takes size =
-      takes-span src (2 + (16 + m)) size _ _ _ (behind-go _ _ _ (takes-span src (16 + m) 2 _ _ _
+      takes-span src (2 + (16 + m)) size _ _ _ tt (behind-go _ _ _ (takes-span src (16 + m) 2 _ _ _ tt
       (in-both (Behind (16 + m)) _
       (λ e. behind-go _ _ _ (rw (← length-end is) (takes-spell src m _ (endSentinel p) _ _ (behind-go m _ next k))))
       (λ e. behind-bad _ _))))
@@ -45,7 +45,7 @@ module _ (src : List ℕ) (p : Part) (is : IsSection p) (start total m : ℕ) (n
       in-both (Takes (total + m)) (leb frame total)
       (λ e. let l : 38 ≤ total = leb-true frame total e in
       takes-less (length (startSentinel p) + (4 + ((total - 20) + m))) (total + m) _
-      (takes-spell src _ _ (startSentinel p) _ _ (behind-go _ _ _ (takes-span src _ 4 _ _ _
+      (takes-spell src _ _ (startSentinel p) _ _ (behind-go _ _ _ (takes-span src _ 4 _ _ _ tt
       (in-both (Behind ((total - 20) + m)) (eqb (frame + sectionSize src start) total)
       (λ f. let z : frame + sectionSize src start ≡ total = eqb-true (frame + sectionSize src start) total f in
       behind-go _ _ _ (takes-less _ ((total - 20) + m) _ (data-takes (sectionSize src start)) (omega arith)))
@@ -70,7 +70,7 @@ module _ (h : FlatHeader) (src : List ℕ) (handle location m : ℕ) (next : Acc
       (λ e. in-both (Behind ((h .length - 43) + m)) (mayEnd h location (location + n + size + 2))
       (λ f. let z : location + n + size + 2 ≤ h .length = end-inside h location (location + n + size + 2) f in
       behind-go _ _ _ (takes-less (size + (2 + m)) _ _
-      (takes-span src _ size _ _ _ (behind-go _ _ _ (takes-span src m 2 _ _ _ (verdict-behind (verdict h src handle location n size)))))
+      (takes-span src _ size _ _ _ tt (behind-go _ _ _ (takes-span src m 2 _ _ _ tt (verdict-behind (verdict h src handle location n size)))))
       (omega arith)))
       (λ f. behind-bad _ _))
       (λ e. behind-bad _ _)
@@ -82,10 +82,10 @@ module _ (h : FlatHeader) (src : List ℕ) (handle location m : ℕ) (next : Acc
       (λ e. let a : 43 + 9 * h .count ≤ location = start-behind h location e in
       let b : location + 2 ≤ h .length = start-inside h location e in
       let s = size-behind (sizeAt src location) (omega arith) in
-      behind-go _ _ _ (takes-less (2 + (2 + ((h .length - 43) + m))) _ _ (takes-span src _ 2 _ _ _
+      behind-go _ _ _ (takes-less (2 + (2 + ((h .length - 43) + m))) _ _ (takes-span src _ 2 _ _ _ tt
       (in-both (Behind (2 + ((h .length - 43) + m))) (isLast (firstWord src location))
       (λ f. behind-less _ _ _ s (omega arith))
-      (λ f. behind-go _ _ _ (takes-span src _ 2 _ _ _ s)))) (omega arith)))
+      (λ f. behind-go _ _ _ (takes-span src _ 2 _ _ _ tt s)))) (omega arith)))
       (λ e. behind-bad _ _)
 
 -- ---- the map is read twice, and every two bytes of it lead to an object
@@ -148,11 +148,11 @@ module _ (h : FlatHeader) (src : List ℕ) where
         objects = c .0;
         half = omega (arith, c .1);
         takes = takes-less (2 + ((size - 2) + (2 + n))) _ _
-            (takes-span src _ 2 _ _ _ (behind-go _ _ _ (takes-span src _ (size - 2) _ _ _ (behind-go _ _ _ (takes-span src n 2 _ _ _
+            (takes-span src _ 2 _ _ _ tt (behind-go _ _ _ (takes-span src _ (size - 2) _ _ _ tt (behind-go _ _ _ (takes-span src n 2 _ _ _ tt
             (in-both (Behind n) _ (λ f. c .2) (λ f. behind-bad _ _)))))))
             (omega arith);
       })
-      (λ e. record { objects = 0; half = omega arith; takes = takes-less (2 + 0) _ _ (takes-span src 0 2 _ _ _ (behind-bad 0 _)) (omega arith) })
+      (λ e. record { objects = 0; half = omega arith; takes = takes-less (2 + 0) _ _ (takes-span src 0 2 _ _ _ tt (behind-bad 0 _)) (omega arith) })
 
   chunks-spent : (k chunk : ℕ) → Spent (mapEnd h - chunk) (askChunks h src k chunk)
   unfolding askChunks
@@ -164,7 +164,7 @@ module _ (h : FlatHeader) (src : List ℕ) where
 
 -- both sections once, the map twice, and for every two bytes of the map the source once: for every header and source
 pub bytes-bound : (h : FlatHeader) (src : List ℕ)
-    → bytesTaken (rules h src) ≤ locatorOf h 0 .size + locatorOf h 1 .size + 2 * mapSize h + mapSize h / 2 * h .length
+    → bytesAtMost (rules h src) ≤ locatorOf h 0 .size + locatorOf h 1 .size + 2 * mapSize h + mapSize h / 2 * h .length
 unfolding rules mapEnd
 bytes-bound h src =
     let s = chunks-spent h src (mapSize h) (mapStart h) in

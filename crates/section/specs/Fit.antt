@@ -9,12 +9,16 @@ use Rattle.rules.specs.Section.{frame}
 use Rattle.chunk.specs.Fit.{noObject, noEntry}
 use Rattle.section.specs.Section.{sectionOf}
 
--- the map and the objects are untouched, and the size, once it is known, is the locator's
+-- how far the section is: its size, once it is known, is the locator's, the total
+unfoldable pub sectionDone : (total done size : ℕ) → Bool
+sectionDone total done size = if ltb done 20 then eqb size 0 else eqb (frame + size) total
+
+-- the map and the objects are untouched
 unfoldable pub fitSection : FlatWalker → Bool
 fitSection s =
     (noObject s && (noEntry (s .map) && eqb (s .map .chunk) 0))
     && (leb frame (sectionOf s .size) && ltb (s .done) (sectionOf s .size))
-    && (if ltb (s .done) 20 then eqb (s .size) 0 else eqb (frame + s .size) (sectionOf s .size))
+    && sectionDone (sectionOf s .size) (s .done) (s .size)
 
 pub record FitSection (s : FlatWalker) : Type 0 where
   pub framed : frame ≤ sectionOf s .size

@@ -4,3 +4,7 @@ pub mod ObjectDemands
 pub mod Objects
 pub mod SectionDemands
 pub mod Sections
+pub mod Deltas
+pub mod Entries
+pub mod Chunks
+pub mod Walk

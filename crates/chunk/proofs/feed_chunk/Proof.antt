@@ -24,7 +24,7 @@ unfolding requestChunk chunkEnd if_then_else_
 feed-chunk-entries-requires c κs =
     let a = c .before .before .before .before .before in
     let asked : length (a .args .piece .now) ≤ a .args .s .size - a .args .s .done =
-        simp (le-ltb _ _ (c .before .before .if1 .left), lt-ltb _ _ (c .if2 .taken)) at (a .pre .1)
+    simp (le-ltb _ _ (c .before .before .if1 .left), lt-ltb _ _ (c .if2 .taken)) at (a .pre .1)
     in
     (a .pre .0, omega arith)
 
@@ -37,7 +37,7 @@ unfolding requestChunk chunkEnd if_then_else_
 feed-chunk-crc-requires c κs =
     let a = c .before .before .before .before .before in
     let asked : length (a .args .piece .now) ≤ a .args .s .size + 2 - a .args .s .done =
-        simp (le-ltb _ _ (c .before .before .if1 .left), le-ltb _ _ (c .if2 .left)) at (a .pre .1)
+    simp (le-ltb _ _ (c .before .before .if1 .left), le-ltb _ _ (c .if2 .left)) at (a .pre .1)
     in
     (a .pre .0, omega arith, omega (arith, a .pre .0 .within))
 

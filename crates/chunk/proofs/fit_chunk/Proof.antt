@@ -42,8 +42,11 @@ returns-2 c =
     let called = c .before .before .before .before .before .before .before in
     telling _ _
     (rw (
-      c .before .before .before .before .no-object .ensures, c .before .before .before .no-entry .ensures, c .before .before .chunk-done .ensures,
-      called .map-end .ensures .0, called .before .map-start .ensures .0
+      c .before .before .before .before .no-object .ensures,
+      c .before .before .before .no-entry .ensures,
+      c .before .before .chunk-done .ensures,
+      called .map-end .ensures .0,
+      called .before .map-start .ensures .0,
     ))
     (fit-chunk-shows (called .before .before .before .before .args .s))
 

@@ -7,14 +7,17 @@ use Rattle.header.proofs.Bounds.{map-end-below}
 use Rattle.entry.proofs.at_last.Statement.{statement}
 use Rattle.entry.proofs.at_last.Tie as tie
 
+below : (a : tie.Start) → mapEnd (a .args .s .header) < 2 ^ 33
+below a = search (needs, map-end-below)
+
 add-result : tie.Need-add-result
-add-result c = let e : mapEnd (c .before .before .args .s .header) < 2 ^ 33 = search (needs, map-end-below) in omega arith
+add-result c = omega (arith, below (c .before .before))
 
 cast-result : tie.Need-cast-result
 cast-result c = search needs
 
 add-result-2 : tie.Need-add-result-2
-add-result-2 c = let e : mapEnd (c .before .before .before .before .args .s .header) < 2 ^ 33 = search (needs, map-end-below) in omega arith
+add-result-2 c = omega (arith, below (c .before .before .before .before))
 
 returns : tie.Need-returns
 returns c = search needs

@@ -30,7 +30,9 @@ crc8-requires c κs = search needs
 returns : tie.Need-returns
 unfolding settleChunkSize chunkFits if_then_else_
 returns c =
-    rw (← c .before .before .before .before .before .before .before .before .map-end .ensures .0, c .before .before .before .before .before .before .if1 .taken, c .before .before .before .crc8 .ensures)
+    let summed = c .before .before .before in
+    let tested = summed .before .before .before in
+    rw (← tested .before .before .map-end .ensures .0, tested .if1 .taken, summed .crc8 .ensures)
 
 fell-requires : tie.Need-fell-requires
 fell-requires c κs = search needs

@@ -1,0 +1,4 @@
+pub mod Bounds
+pub mod Demand
+pub mod Fields
+pub mod Fitness

@@ -1,0 +1,113 @@
+// What the last byte of a field of a section does: the field is whole, and is held against the rest.
+ghost use mathlib.Core.Path.{_≡_};
+ghost use Prim.Native.Nat.{_≤_};
+ghost use Rattle.streaming.specs.State.{fell as State·fell};
+ghost use Rattle.section.specs.Section.{enterNext, settleSectionSize, settleSectionCrc, settleSection};
+ghost use Rattle.section.specs.Fit.{FitSection};
+use crate::FRAME;
+use crate::enter_section;
+use crate::hand::part_number;
+use crate::hand::part_of;
+use crate::hand::section;
+use chunk::enter_chunk;
+use header::map_start;
+use streaming::Answer;
+use streaming::Failure;
+use streaming::Fault;
+use streaming::Fed;
+use streaming::FlatWalker;
+use streaming::SectionRecord;
+use streaming::Stage;
+use streaming::Step;
+use streaming::StreamError;
+
+// A fault is answered and held.
+pub fn fell(f: Fault, s: FlatWalker) -> Fed
+    ensures { λ r. ⌜ r ≡ State·fell f s ⌝ }
+{
+    Fed {
+        answer: Answer::Refused(StreamError::Fault(f)),
+        state: FlatWalker {
+            failure: Failure::Held(f),
+            ..s
+        },
+    }
+}
+
+// The size is whole: with the frame it has to be the locator's.
+pub fn settle_section_size(s: FlatWalker, crc: u16, field: [u8; 4], size: u32) -> Fed
+    ensures { λ r. ⌜ r ≡ settleSectionSize s crc field size ⌝ }
+{
+    let g = s.stage;
+    let l = section(s);
+    if FRAME + size as u64 == l.size as u64 {
+        return Fed {
+            answer: Answer::Step(Step::Framing),
+            state: FlatWalker {
+                done: 20,
+                size: size,
+                crc: crc,
+                field: field,
+                ..s
+            },
+        };
+    }
+    fell(Fault::SectionSize(part_number(g)), s)
+}
+
+// The checksum is whole.
+pub fn settle_section_crc(s: FlatWalker, field: [u8; 4], stored: u16) -> Fed
+    requires { ⌜ FitSection s × (20 ≤ s .done) ⌝ }
+    ensures { λ r. ⌜ r ≡ settleSectionCrc s field stored ⌝ }
+{
+    let g = s.stage;
+    if stored == s.crc {
+        return Fed {
+            answer: Answer::Step(Step::Framing),
+            state: FlatWalker {
+                done: 22 + s.size,
+                field: field,
+                ..s
+            },
+        };
+    }
+    fell(
+        Fault::SectionCrc {
+            part: part_number(g),
+            expected: s.crc,
+            actual: stored,
+        },
+        s,
+    )
+}
+
+// Behind the header variables the classes, behind the classes the map.
+fn enter_next(g: Stage, s: FlatWalker) -> FlatWalker
+    ensures { λ r. ⌜ r ≡ enterNext g s ⌝ }
+{
+    match g {
+        Stage::Vars => enter_section(s, Stage::Classes),
+        Stage::Classes => enter_chunk(s, map_start(s.header)),
+        Stage::Chunk => s,
+        Stage::Entry => s,
+        Stage::Object => s,
+        Stage::Done => s,
+    }
+}
+
+// The last byte commits.
+pub fn settle_section(s: FlatWalker) -> Fed
+    ensures { λ r. ⌜ r ≡ settleSection s ⌝ }
+{
+    let g = s.stage;
+    let l = section(s);
+    let record = SectionRecord {
+        part: part_of(g),
+        data_offset: l.offset as u64 + 20,
+        size: s.size,
+    };
+    Fed {
+        answer: Answer::Step(Step::Section(record)),
+        state: enter_next(g, s),
+    }
+}
