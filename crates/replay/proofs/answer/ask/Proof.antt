@@ -1,0 +1,67 @@
+-- `ask` meets its contract.
+use mathlib.Core.Path.{ap, _∙_}
+use borrow.Author.Tests.{eq-eqb, ne-eqb}
+use Rattle.streaming.specs.Choose.{if_then_else_}
+use Rattle.replay.specs.Answers.{askLine, askedLine, endedLine, yesLine}
+use borrow.Author.Needs.{needs}
+use Rattle.replay.proofs.answer.ask.Statement.{statement}
+use Rattle.replay.proofs.answer.ask.Tie as tie
+
+request-requires : tie.Need-request-requires
+request-requires c κs = search needs
+
+asked-requires : tie.Need-asked-requires
+asked-requires c κs = search needs
+
+returns : tie.Need-returns
+unfolding askLine if_then_else_
+returns c = rw (eq-eqb _ _ (c .before .before .if1 .taken)) (c .asked .ensures ∙ ap askedLine (c .before .request .ensures))
+
+end-of-input-requires : tie.Need-end-of-input-requires
+end-of-input-requires c κs = search needs
+
+ended-requires : tie.Need-ended-requires
+ended-requires c κs = search needs
+
+returns-2 : tie.Need-returns-2
+unfolding askLine if_then_else_
+returns-2 c = rw (ne-eqb _ _ (c .before .before .before .if1 .left), eq-eqb _ _ (c .before .before .if2 .taken)) (c .ended .ensures ∙ ap endedLine (c .before .end-of-input .ensures))
+
+consistent-requires : tie.Need-consistent-requires
+consistent-requires c κs = search needs
+
+yes-requires : tie.Need-yes-requires
+yes-requires c κs = search needs
+
+returns-3 : tie.Need-returns-3
+unfolding askLine if_then_else_
+returns-3 c = rw (ne-eqb _ _ (c .before .before .before .before .if1 .left), ne-eqb _ _ (c .before .before .before .if2 .left), eq-eqb _ _ (c .before .before .if3 .taken))
+    (c .yes .ensures ∙ ap yesLine (c .before .consistent .ensures))
+
+fit-requires : tie.Need-fit-requires
+fit-requires c κs = search needs
+
+yes-requires-2 : tie.Need-yes-requires-2
+yes-requires-2 c κs = search needs
+
+returns-4 : tie.Need-returns-4
+unfolding askLine if_then_else_
+returns-4 c = rw (ne-eqb _ _ (c .before .before .before .before .if1 .left), ne-eqb _ _ (c .before .before .before .if2 .left), ne-eqb _ _ (c .before .before .if3 .left))
+    (c .yes2 .ensures ∙ ap yesLine (c .before .fit .ensures))
+
+pub ask-spec : {M : Type 1} → statement M
+ask-spec =
+    tie.close
+    (tie.spec
+    request-requires
+    asked-requires
+    returns
+    end-of-input-requires
+    ended-requires
+    returns-2
+    consistent-requires
+    yes-requires
+    returns-3
+    fit-requires
+    yes-requires-2
+    returns-4)

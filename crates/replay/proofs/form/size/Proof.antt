@@ -1,0 +1,65 @@
+-- `size` meets its contract.
+use mathlib.Core.Path.{sym, _∙_}
+use borrow.Author.Needs.{needs}
+use native.Mathlib.Omega.{arith}
+use borrow.Author.Tests.{lt-ltb, le-ltb, le-leb, eq-eqb, ne-eqb}
+use Rattle.streaming.specs.Choose.{if_then_else_}
+use Rattle.replay.specs.Form.{sizeOf}
+use Rattle.replay.proofs.form.size.Statement.{statement}
+use Rattle.replay.proofs.form.size.Tie as tie
+
+returns : tie.Need-returns
+unfolding sizeOf if_then_else_
+returns c = (rw (eq-eqb _ _ (c .if1 .taken)), omega arith)
+
+shared-slice-read-letter : tie.Need-shared-slice-read-letter
+shared-slice-read-letter c = search needs
+
+is-bare-requires : tie.Need-is-bare-requires
+is-bare-requires c κs = search needs
+
+returns-2 : tie.Need-returns-2
+unfolding sizeOf if_then_else_
+returns-2 c = (rw (ne-eqb _ _ (c .before .before .before .if1 .left), sym (c .before .is-bare .ensures) ∙ c .if2 .taken), omega arith)
+
+returns-3 : tie.Need-returns-3
+unfolding sizeOf if_then_else_
+returns-3 c = (rw (ne-eqb _ _ (c .before .before .before .before .before .if1 .left), sym (c .before .before .before .is-bare .ensures) ∙ c .before .before .if2 .left, eq-eqb _ _ (c .before .if3 .taken), lt-ltb _ _ (c .if4 .taken)), omega arith)
+
+returns-4 : tie.Need-returns-4
+unfolding sizeOf if_then_else_
+returns-4 c = (rw (ne-eqb _ _ (c .before .before .before .before .before .if1 .left), sym (c .before .before .before .is-bare .ensures) ∙ c .before .before .if2 .left, eq-eqb _ _ (c .before .if3 .taken), le-ltb _ _ (c .if4 .left)), omega arith)
+
+state-size-requires : tie.Need-state-size-requires
+state-size-requires c κs = search needs
+
+returns-5 : tie.Need-returns-5
+unfolding sizeOf if_then_else_
+returns-5 c = (rw (ne-eqb _ _ (c .before .before .before .before .before .before .if1 .left), sym (c .before .before .before .before .is-bare .ensures) ∙ c .before .before .before .if2 .left, ne-eqb _ _ (c .before .before .if3 .left), eq-eqb _ _ (c .before .if5 .taken)) (c .state-size .ensures .0), c .state-size .ensures .1)
+
+feed-size-requires : tie.Need-feed-size-requires
+feed-size-requires c κs = search needs
+
+returns-6 : tie.Need-returns-6
+unfolding sizeOf if_then_else_
+returns-6 c = (rw (ne-eqb _ _ (c .before .before .before .before .before .before .before .if1 .left), sym (c .before .before .before .before .before .is-bare .ensures) ∙ c .before .before .before .before .if2 .left, ne-eqb _ _ (c .before .before .before .if3 .left), ne-eqb _ _ (c .before .before .if5 .left), eq-eqb _ _ (c .before .if6 .taken)) (c .feed-size .ensures .0), c .feed-size .ensures .1)
+
+returns-7 : tie.Need-returns-7
+unfolding sizeOf if_then_else_
+returns-7 c = (rw (ne-eqb _ _ (c .before .before .before .before .before .before .if1 .left), sym (c .before .before .before .before .is-bare .ensures) ∙ c .before .before .before .if2 .left, ne-eqb _ _ (c .before .before .if3 .left), ne-eqb _ _ (c .before .if5 .left), ne-eqb _ _ (c .if6 .left)), omega arith)
+
+pub size-spec : {M : Type 1} → statement M
+size-spec =
+    tie.close
+    (tie.spec
+    returns
+    shared-slice-read-letter
+    is-bare-requires
+    returns-2
+    returns-3
+    returns-4
+    state-size-requires
+    returns-5
+    feed-size-requires
+    returns-6
+    returns-7)
