@@ -12,3 +12,4 @@ pub mod Walk
 pub mod Meets
 pub mod Fronts
 pub mod Main
+pub mod Useless
