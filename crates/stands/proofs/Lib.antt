@@ -13,3 +13,5 @@ pub mod Meets
 pub mod Fronts
 pub mod Main
 pub mod Useless
+pub mod EveryStep
+pub mod WholeCase
