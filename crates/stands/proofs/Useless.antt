@@ -1,12 +1,12 @@
 -- Four useless walkers, and that none of them meets the statement: each breaks on the whole case.
 use Prim.Native.Nat.{ℕ}
 use mathlib.Core.Bool.{Bool, true, false}
-use mathlib.Core.List.{List, [], _∷_}
+use mathlib.Core.List.{[], _∷_}
 use mathlib.Core.Path.{_≡_, refl, sym, ap, _∙_}
 use native.Mathlib.Omega.{arith}
 use lib.ListN.{length}
 use Rattle.streaming.specs.Choose.{if_then_else_}
-use Rattle.streaming.specs.Record.{Record, committedIn}
+use Rattle.streaming.specs.Record.{committedIn}
 use Rattle.streaming.specs.declared.FlatHeader.{FlatHeader}
 use Rattle.streaming.specs.declared.FlatWalker.{FlatWalker}
 use Rattle.streaming.specs.declared.Part.the-variants.{HeaderVars}
@@ -18,7 +18,7 @@ use Rattle.streaming.specs.declared.Ended.{Ended}
 use Rattle.streaming.specs.declared.Answer.{Answer}
 use Rattle.streaming.specs.declared.Answer.the-variants as answer
 use Rattle.account.specs.Account.{demand, framing}
-use Rattle.account.specs.Statement.{Call, part, answerOf, after, Walker, Meets}
+use Rattle.account.specs.Statement.{answerOf, after, Walker, Meets}
 use Rattle.account.specs.Runs.{run}
 use Rattle.account.proofs.Carried.{instead}
 use Rattle.rules.specs.Source.{Of}
@@ -27,10 +27,7 @@ use Rattle.rules.specs.Object.{objectRecord}
 use Rattle.rules.proofs.EveryRule.{every-rule}
 use Rattle.rules.proofs.Cases.{wholeHeader, whole, wholeCase, S}
 use Rattle.stands.proofs.Fitness.{begun, flatFeed, flatWalker}
-
--- the n bytes of the whole case at a place, offered there
-abbrev at : (offset n : ℕ) → Call
-at offset n = record { offset = offset; piece = part whole offset n }
+use Rattle.stands.proofs.WholeCase.{at}
 
 -- ---- one that refuses everything, though it asks as it should
 

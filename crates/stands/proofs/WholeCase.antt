@@ -1,10 +1,9 @@
 -- The whole case through the walk by calls, computed to its end and cut in two ways: the premises of the theorems are met, and all three records come.
-use Prim.Native.Nat.{ℕ, zero, suc, _+_}
+use Prim.Native.Nat.{ℕ, zero, suc}
 use mathlib.Core.Bool.{false≢true}
-use mathlib.Core.List.{List, [], _∷_, _++_}
+use mathlib.Core.List.{List, [], _∷_}
 use mathlib.Core.Path.{_≡_, refl, ap}
 use lib.ListN.{length, take, drop}
-use Rattle.streaming.specs.Record.{Record}
 use Rattle.streaming.specs.declared.Part.the-variants.{HeaderVars, Classes}
 use Rattle.streaming.specs.declared.Asked.the-variants as asked
 use Rattle.streaming.specs.declared.Ended.the-variants as ended
@@ -18,7 +17,7 @@ use Rattle.stands.proofs.Fitness.{begun, flatWalker}
 -- ---- calls that bring the bytes of the whole case
 
 -- so many of its bytes at a place, offered there
-abbrev at : (offset n : ℕ) → Call
+abbrev pub at : (offset n : ℕ) → Call
 at offset n = record { offset = offset; piece = part whole offset n }
 
 -- calls by their places and sizes
