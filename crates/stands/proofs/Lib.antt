@@ -12,3 +12,6 @@ pub mod Walk
 pub mod Meets
 pub mod Fronts
 pub mod Main
+pub mod EveryStep
+pub mod WholeCase
+pub mod Useless
