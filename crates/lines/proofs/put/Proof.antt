@@ -55,7 +55,7 @@ loop-again c =
       p .kept .0 ∙ l .inv .4,
       omega (arith, p .kept .0),
       line-next (a .line .numbers) (take 1 (set (a .out .now) 0 (a .line .letter))) (l .out) (p .last .0) (l .at) (p .result) (l .i)
-      (omega arith) (l .inv .6) (p .ensures .0),
+          (omega arith) (l .inv .6) (p .ensures .0),
     )
 
 slice-write-out-2 : tie.Need-slice-write-out-2 Inv-loop μ-loop
@@ -79,7 +79,7 @@ returns c =
     (⊎-elim (λ w. inl (omega arith)) (λ w. inr (omega arith)) (c .loop-test .came)) in (
       (k, sym (length-take-le _ _ k)),
       line-end n (a .args .out .now) (l .out) (a .args .line .letter) (l .at) (l .i) (a .args .line .count)
-      (omega (arith, a .pre)) (omega (arith, a .pre)) t (l .inv .6),
+          (omega (arith, a .pre)) (omega (arith, a .pre)) t (l .inv .6),
     )
 
 pub put-spec : {M : Type 1} → statement M

@@ -61,9 +61,11 @@ unfolding sizeOf if_then_else_
 returns-6 c =
     let d = c .before .before .before .before .before in
     let n = ne-eqb _ _ (d .before .before .if1 .left) in
-    let b = sym (d .is-bare .ensures) ∙ c .before .before .before .before .if2 .left in
-    (rw (n, b, ne-eqb _ _ (c .before .before .before .if3 .left), ne-eqb _ _ (c .before .before .if5 .left), eq-eqb _ _ (c .before .if6 .taken))
-    (c .feed-size .ensures .0), c .feed-size .ensures .1)
+    let b = sym (d .is-bare .ensures) ∙ c .before .before .before .before .if2 .left in (
+      rw (n, b, ne-eqb _ _ (c .before .before .before .if3 .left), ne-eqb _ _ (c .before .before .if5 .left), eq-eqb _ _ (c .before .if6 .taken))
+          (c .feed-size .ensures .0),
+      c .feed-size .ensures .1,
+    )
 
 returns-7 : tie.Need-returns-7
 unfolding sizeOf if_then_else_
