@@ -39,10 +39,6 @@ module _ (src : List ℕ) where
   span-asks-some at zero plain t h = absurd (omega arith)
   span-asks-some at (suc n) plain t h = span-asks at n plain t
 
-  pub oneByOne-asks-some : (at n : ℕ) (t : Turn) → 0 < n → askOf (oneByOne src at n t) ≡ demand at 1
-  oneByOne-asks-some at zero t h = absurd (omega arith)
-  oneByOne-asks-some at (suc n) t h = oneByOne-asks at n t
-
   pub spell-asks-some : (at : ℕ) (ws : List ℕ) (f : Fault) (t : Turn) → 0 < length ws → askOf (spell src at ws f t) ≡ demand at (length ws)
   spell-asks-some at [] f t h = absurd (omega arith)
   spell-asks-some at (w ∷ ws) f t h = spell-asks at w ws f t

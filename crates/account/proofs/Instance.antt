@@ -23,7 +23,7 @@ use Rattle.account.specs.Statement.{part, Walker, Meets}
 use Rattle.account.specs.Tidy.{Tidy, tidy-over}
 use Rattle.account.proofs.Tidying.{tidy-spell, tidy-span, tidy-turn-if, tidy-bad}
 use Rattle.account.proofs.Parts.{part-cons, same-or-not}
-use Rattle.account.proofs.Walks.{Machine, together, Phase, Spelled, stop, lands-go, lands-bad, lands-if, phase-on, spelled-on}
+use Rattle.account.proofs.Walks.{Machine, Phase, Spelled, stop, lands-go, lands-bad, lands-if, phase-on, spelled-on}
 use Rattle.account.proofs.Walking.{walkerOf, walker-meets}
 
 -- ---- the rules
@@ -107,9 +107,9 @@ given-spelled limit =
     other-told d p n (inr x) = refl
 
 -- its last byte, a demand of its own
-number-phase : (limit : ℕ) → Phase machine together 2 1 framing (λ q. number limit) (λ q w. feedNumber limit (getD w 0 0))
+number-phase : (limit : ℕ) → Phase machine 2 1 framing (λ q. number limit) (λ q w. feedNumber limit (getD w 0 0))
 unfolding if_then_else_
-number-phase limit = record { asking = λ q h. asked-alone q h; taking = λ q p h l k. taken-alone q p h k }
+number-phase limit = record { asking = λ q h. asked-alone q h; taking = λ q p h k. taken-alone q p h k }
   where
     asked-alone : (q : List ℕ) → length q < 1 → demand 2 1 ≡ demand (2 + length q) (1 - length q)
     asked-alone [] h = refl

@@ -15,11 +15,11 @@ use Rattle.streaming.specs.declared.Fault.{Fault}
 use Rattle.streaming.specs.declared.Asked.{Asked}
 use Rattle.streaming.specs.declared.Answer.{Answer}
 use Rattle.account.specs.Account.{Account, over, demand, framing, faulted, broken, askOf, passed, saysAt}
-use Rattle.account.specs.Asking.{Turn, go, bad, span, oneByOne, spell}
+use Rattle.account.specs.Asking.{Turn, go, bad, span, spell}
 use Rattle.account.specs.Runs.{Past}
 use Rattle.account.specs.Statement.{part}
-use Rattle.account.proofs.Asking.{demand-same, span-asks-some, oneByOne-asks-some, spell-asks-some}
-use Rattle.account.proofs.Demands.{span-passed, span-last, span-plain, one-cons, spell-passed, spell-last, spell-plain, spell-breaks}
+use Rattle.account.proofs.Asking.{demand-same, span-asks-some, spell-asks-some}
+use Rattle.account.proofs.Demands.{span-passed, span-last, span-plain, spell-passed, spell-last, spell-plain, spell-breaks}
 use Rattle.account.proofs.Parts.{length-part, part-inside, part-add, same-or-not}
 
 -- what a machine asks for, and what it does with a piece that it takes
@@ -28,19 +28,12 @@ pub record Machine : Type 1 where
   pub request : State → Asked
   pub feed : State → List ℕ → Answer × State
 
--- what is left of its demand for a byte with k to come, itself among them: all of them, or itself alone
-abbrev pub together : ℕ → ℕ
-together k = k
-
-abbrev pub alone : ℕ → ℕ
-alone k = 1
-
 module _ (M : Machine) where
   -- n bytes at a place: behind the bytes q the machine is in `mid q`, and a piece that is the rest of them all, w, leads from there to `fin q w`
   -- (a state that fails there may still show where the last piece began)
-  pub record Phase (left : ℕ → ℕ) (at n : ℕ) (plain : Answer) (mid : List ℕ → M .State) (fin : (q w : List ℕ) → Answer × M .State) : Type 0 where
-    pub asking : (q : List ℕ) → length q < n → M .request (mid q) ≡ demand (at + length q) (left (n - length q))
-    pub taking : (q p : List ℕ) → 0 < length p → length p ≤ left (n - length q) → length q + length p ≤ n
+  pub record Phase (at n : ℕ) (plain : Answer) (mid : List ℕ → M .State) (fin : (q w : List ℕ) → Answer × M .State) : Type 0 where
+    pub asking : (q : List ℕ) → length q < n → M .request (mid q) ≡ demand (at + length q) (n - length q)
+    pub taking : (q p : List ℕ) → 0 < length p → length q + length p ≤ n
         → M .feed (mid q) p ≡ if eqb (length q + length p) n then fin q (q ++ p) else (plain, mid (q ++ p))
 
   -- given bytes at a place: behind d of them the machine is in `mid d`, and the rest of them leads from there to `fin d`, another byte to `gone d`
@@ -57,11 +50,7 @@ module _ (M : Machine) where
     pub data On : M .State → Account → Type 0 where
       stop : {st : M .State} {q : Asked} → M .request st ≡ q → Past src q → On st (over q)
       amid : {at n : ℕ} {plain : Answer} {mid : List ℕ → M .State} {fin : (q w : List ℕ) → Answer × M .State} {t : Turn} {st : M .State} {a : Account}
-          → Phase together at n plain mid fin → (d : ℕ) → d < n → d ≤ length src - at → st ≡ mid (part src at d) → a ≡ span src (at + d) (n - d) plain t
-          → (at + n ≤ length src → (q : List ℕ) → fin q (part src at n) .0 ≡ t .says)
-          → (at + n ≤ length src → (q : List ℕ) → On (fin q (part src at n) .1) (t .rest)) → On st a
-      one : {at n : ℕ} {mid : List ℕ → M .State} {fin : (q w : List ℕ) → Answer × M .State} {t : Turn} {st : M .State} {a : Account}
-          → Phase alone at n framing mid fin → (d : ℕ) → d < n → d ≤ length src - at → st ≡ mid (part src at d) → a ≡ oneByOne src (at + d) (n - d) t
+          → Phase at n plain mid fin → (d : ℕ) → d < n → d ≤ length src - at → st ≡ mid (part src at d) → a ≡ span src (at + d) (n - d) plain t
           → (at + n ≤ length src → (q : List ℕ) → fin q (part src at n) .0 ≡ t .says)
           → (at + n ≤ length src → (q : List ℕ) → On (fin q (part src at n) .1) (t .rest)) → On st a
       spelling : {at : ℕ} {ws : List ℕ} {f : Fault} {mid gone : ℕ → M .State} {fin : ℕ → Answer × M .State} {t : Turn} {st : M .State} {a : Account}
@@ -76,9 +65,6 @@ module _ (M : Machine) where
         let k : length (part src at d) ≡ d = length-part src at d b in
         rw (es, ea) (p .asking (part src at d) (omega arith) ∙ ap₂ demand (omega arith) (omega arith)
         ∙ sym (span-asks-some src (at + d) (n - d) plain t (omega arith)))
-    on-asks (one {at = at} {n = n} {t = t} p d l b es ea says goes) =
-        let k : length (part src at d) ≡ d = length-part src at d b in
-        rw (es, ea) (p .asking (part src at d) (omega arith) ∙ ap₂ demand (omega arith) refl ∙ sym (oneByOne-asks-some src (at + d) (n - d) t (omega arith)))
     on-asks (spelling {at = at} {ws = ws} {f = f} {t = t} p d l es ea says goes) =
         let k : length (drop d ws) ≡ length ws - d = length-drop d ws in
         rw (es, ea) (p .asking d l ∙ ap₂ demand refl (sym k) ∙ sym (spell-asks-some src (at + d) (drop d ws) f t (omega arith)))
@@ -95,7 +81,7 @@ module _ (M : Machine) where
     goes-to r e s o = record { says = ap (λ (x : Answer × M .State). x .0) e ∙ s; on = rw e o }
 
     amid-goes : {at n : ℕ} {plain : Answer} {mid : List ℕ → M .State} {fin : (q w : List ℕ) → Answer × M .State} (t : Turn)
-        → Phase together at n plain mid fin → (d : ℕ) → d < n → d ≤ length src - at
+        → Phase at n plain mid fin → (d : ℕ) → d < n → d ≤ length src - at
         → (at + n ≤ length src → (q : List ℕ) → fin q (part src at n) .0 ≡ t .says)
         → (at + n ≤ length src → (q : List ℕ) → On (fin q (part src at n) .1) (t .rest))
         → (b : ℕ) (bs : List ℕ) → suc (length bs) ≤ n - d → (b ∷ bs) ≡ part src (at + d) (suc (length bs))
@@ -116,7 +102,7 @@ module _ (M : Machine) where
         joined = ap (λ (x : List ℕ). part src at d ++ x) e ∙ part-add src at d k
 
         fed : M .feed (mid (part src at d)) (b ∷ bs) ≡ if eqb (d + k) n then fin (part src at d) (part src at (d + k)) else (plain, mid (part src at (d + k)))
-        fed = p .taking (part src at d) (b ∷ bs) (omega arith) (omega (arith, q)) (omega (arith, q)) ∙ rw (q, joined)
+        fed = p .taking (part src at d) (b ∷ bs) (omega arith) (omega (arith, q)) ∙ rw (q, joined)
 
         split : (v : Bool) → eqb (d + k) n ≡ v → Goes (mid (part src at d)) (span src (at + d) (n - d) plain t) (b ∷ bs)
         split true v =
@@ -133,42 +119,6 @@ module _ (M : Machine) where
             (let x : at + d + k ≡ at + (d + k) = omega arith in
             let y : n - d - k ≡ n - (d + k) = omega arith in
             span-passed src plain t k (n - d) (at + d) (omega arith) inside ∙ rw (x, y)) says goes)
-
-    one-goes : {at n : ℕ} {mid : List ℕ → M .State} {fin : (q w : List ℕ) → Answer × M .State} (t : Turn)
-        → Phase alone at n framing mid fin → (d : ℕ) → d < n → d ≤ length src - at
-        → (at + n ≤ length src → (q : List ℕ) → fin q (part src at n) .0 ≡ t .says)
-        → (at + n ≤ length src → (q : List ℕ) → On (fin q (part src at n) .1) (t .rest))
-        → (b : ℕ) → (b ∷ []) ≡ part src (at + d) 1 → Goes (mid (part src at d)) (oneByOne src (at + d) (n - d) t) (b ∷ [])
-    unfolding oneByOne if_then_else_
-    one-goes {at} {n} {mid} {fin} t p d l r says goes b e = split (eqb (d + 1) n) refl
-      where
-        q : length (part src at d) ≡ d
-        q = length-part src at d r
-
-        inside : at + d + 1 ≤ length src
-        inside = part-inside src (at + d) (b ∷ []) e (omega arith)
-
-        joined : part src at d ++ (b ∷ []) ≡ part src at (d + 1)
-        joined = ap (λ (x : List ℕ). part src at d ++ x) e ∙ part-add src at d 1
-
-        fed : M .feed (mid (part src at d)) (b ∷ []) ≡ if eqb (d + 1) n then fin (part src at d) (part src at (d + 1)) else (framing, mid (part src at (d + 1)))
-        fed = p .taking (part src at d) (b ∷ []) (omega arith) (omega arith) (omega (arith, q)) ∙ rw (q, joined)
-
-        split : (v : Bool) → eqb (d + 1) n ≡ v → Goes (mid (part src at d)) (oneByOne src (at + d) (n - d) t) (b ∷ [])
-        split true v =
-            let w : d + 1 ≡ n = eqb-true (d + 1) n v in
-            let m : n - d ≡ 1 = omega arith in
-            goes-to (fin (part src at d) (part src at n)) (fed ∙ rw (v, w))
-            (says (omega (arith, inside)) (part src at d) ∙ sym (rw (m, one-cons src (at + d) 0 t (omega (arith, inside)))))
-            (rw (m, one-cons src (at + d) 0 t (omega (arith, inside))) (goes (omega (arith, inside)) (part src at d)))
-        split false v =
-            let w : d + 1 < n = omega (arith, eqb-false (d + 1) n v) in
-            let m : n - d ≡ suc (suc (n - d - 2)) = omega arith in
-            let x : n - (d + 1) ≡ suc (n - d - 2) = omega arith in
-            let y : at + (d + 1) ≡ suc (at + d) = omega arith in
-            goes-to (framing, mid (part src at (d + 1))) (fed ∙ rw v) (sym (rw (m, one-cons src (at + d) (suc (n - d - 2)) t (omega (arith, inside)))))
-            (rw (m, one-cons src (at + d) (suc (n - d - 2)) t (omega (arith, inside)))
-            (one {t = t} {a = oneByOne src (suc (at + d)) (suc (n - d - 2)) t} p (d + 1) w (omega (arith, inside)) refl (rw (x, y)) says goes))
 
     spelling-goes : {at : ℕ} {ws : List ℕ} {f : Fault} {mid gone : ℕ → M .State} {fin : ℕ → Answer × M .State} (t : Turn)
         → Spelled at ws f mid gone fin → (d : ℕ) → d < length ws
@@ -217,11 +167,6 @@ module _ (M : Machine) where
     on-takes (amid {at = at′} {n = n} {plain = plain} {t = t} p d m r es ea says goes) at left q (b ∷ bs) h l e =
         let same = demand-same (sym (span-asks-some src (at′ + d) (n - d) plain t (omega arith)) ∙ rw ea at q) in
         rw (es, ea) (amid-goes t p d m r says goes b bs (omega (arith, same .1)) (rw (← same .0) at e))
-    on-takes (one {at = at′} {n = n} {t = t} p d m r es ea says goes) at left q (b ∷ []) h l e =
-        let same = demand-same (sym (oneByOne-asks-some src (at′ + d) (n - d) t (omega arith)) ∙ rw ea at q) in
-        rw (es, ea) (one-goes t p d m r says goes b (rw (← same .0) at e))
-    on-takes (one {at = at′} {n = n} {t = t} p d m r es ea says goes) at left q (b ∷ c ∷ bs) h l e =
-        let same = demand-same (sym (oneByOne-asks-some src (at′ + d) (n - d) t (omega arith)) ∙ rw ea at q) in absurd (omega (arith, same .1))
     on-takes (spelling {at = at′} {ws = ws} {f = f} {t = t} p d m es ea says goes) at left q (b ∷ bs) h l e =
         let k : length (drop d ws) ≡ length ws - d = length-drop d ws in
         let same = demand-same (sym (spell-asks-some src (at′ + d) (drop d ws) f t (omega arith)) ∙ rw ea at q) in
@@ -248,19 +193,12 @@ module _ (M : Machine) where
     lands-if false x y = y refl
 
     pub phase-on : {at n : ℕ} {plain : Answer} {mid : List ℕ → M .State} {fin : (q w : List ℕ) → Answer × M .State} {t : Turn}
-        → Phase together at n plain mid fin → 0 < n → (at + n ≤ length src → (q : List ℕ) → Lands (fin q (part src at n)) t)
+        → Phase at n plain mid fin → 0 < n → (at + n ≤ length src → (q : List ℕ) → Lands (fin q (part src at n)) t)
         → On (mid []) (span src at n plain t)
     phase-on {at} {n} {plain} {t = t} p h l =
         let x : at + 0 ≡ at = omega arith in
         let y : n - 0 ≡ n = omega arith in
         amid {t = t} {a = span src at n plain t} p 0 h (omega arith) refl (rw (x, y)) (λ k q. l k q .says) (λ k q. l k q .on)
-
-    pub steps-on : {at n : ℕ} {mid : List ℕ → M .State} {fin : (q w : List ℕ) → Answer × M .State} {t : Turn}
-        → Phase alone at n framing mid fin → 0 < n → (at + n ≤ length src → (q : List ℕ) → Lands (fin q (part src at n)) t) → On (mid []) (oneByOne src at n t)
-    steps-on {at} {n} {t = t} p h l =
-        let x : at + 0 ≡ at = omega arith in
-        let y : n - 0 ≡ n = omega arith in
-        one {t = t} {a = oneByOne src at n t} p 0 h (omega arith) refl (rw (x, y)) (λ k q. l k q .says) (λ k q. l k q .on)
 
     pub spelled-on : {at : ℕ} {ws : List ℕ} {f : Fault} {mid gone : ℕ → M .State} {fin : ℕ → Answer × M .State} {t : Turn}
         → Spelled at ws f mid gone fin → 0 < length ws → (at + length ws ≤ length src → (d : ℕ) → Lands (fin d) t) → On (mid 0) (spell src at ws f t)

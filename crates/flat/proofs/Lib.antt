@@ -1,2 +1,15 @@
 pub mod Calls
 pub mod Taking
+pub mod Keeping
+pub mod KeepingChunk
+pub mod KeepingSection
+pub mod KeepingVisit
+pub mod KeepingObject
+pub mod KeepingEntry
+pub mod Demanded
+pub mod KeepingCalls
+pub mod Outcomes
+pub mod Laws
+pub mod Saved
+pub mod Demands
+pub mod Main

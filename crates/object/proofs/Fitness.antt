@@ -1,16 +1,16 @@
 -- What the tests of `specs/Fit.antt` show.
-use Prim.Native.Nat.{ℕ, _+_, _*_, _-_, _^_, _≤_, _<_}
+use Prim.Native.Nat.{_+_, _*_, _-_, _^_, _≤_, _<_}
 use mathlib.Core.Bool.{Bool, true}
 use mathlib.Core.Path.{_≡_}
 use native.Mathlib.Omega.{arith}
 use lib.Dec.{eqb}
 use borrow.Author.Tests.{eqb-true, eqb-false}
+use Rattle.streaming.specs.declared.FlatWalker.{FlatWalker}
 use Rattle.streaming.proofs.Cases.{shown}
 use Rattle.streaming.proofs.Choose.{in-both}
-use Rattle.streaming.specs.declared.FlatWalker.{FlatWalker}
 use Rattle.rules.specs.Object.{mayStart}
-use Rattle.chunk.specs.Fit.{inChunk, InChunk}
 use Rattle.chunk.proofs.Fitness.{in-chunk-shows}
+use Rattle.chunk.specs.Fit.{inChunk}
 use Rattle.object.specs.Fit.{behindEntry, objectDone, objectConsistent, sizeInWords, fitObject, FitObject}
 
 -- ---- the words
@@ -70,19 +70,47 @@ fit-object-shows s e =
     (λ t k.
     let none : s .«ms_len» ≡ 0 = eqb-true _ _ t in
     record {
-      chunk = chunk; low = entry .low; high = entry .high; field = entry .field; shift = entry .shift; mc = entry .mc;
-      located = entry .located; near = near; starts = entry .starts; words = words; sized = p .sized;
-      fewWords = λ _. search shown; wordLow = λ _. search shown; wordHigh = λ _. search shown;
-      wordBytes = λ n. absurd (n none); some = λ n. absurd (n none); ends = λ n. absurd (n none);
-      behind = λ n. absurd (n none); inside = λ n. absurd (n none);
+      chunk = chunk;
+      low = entry .low;
+      high = entry .high;
+      field = entry .field;
+      shift = entry .shift;
+      mc = entry .mc;
+      located = entry .located;
+      near = near;
+      starts = entry .starts;
+      words = words;
+      sized = p .sized;
+      fewWords = λ _. search shown;
+      wordLow = λ _. search shown;
+      wordHigh = λ _. search shown;
+      wordBytes = λ n. absurd (n none);
+      some = λ n. absurd (n none);
+      ends = λ n. absurd (n none);
+      behind = λ n. absurd (n none);
+      inside = λ n. absurd (n none);
     })
     (λ t k.
     let some : s .«ms_len» ≡ 0 → ⊥ = eqb-false _ _ t in
     record {
-      chunk = chunk; low = entry .low; high = entry .high; field = entry .field; shift = entry .shift; mc = entry .mc;
-      located = entry .located; near = near; starts = entry .starts; words = words; sized = p .sized;
-      fewWords = λ z. absurd (some z); wordLow = λ z. absurd (some z); wordHigh = λ z. absurd (some z);
-      wordBytes = λ _. search shown; some = λ _. search shown; ends = λ _. search shown;
-      behind = λ _. search shown; inside = λ _. search shown;
+      chunk = chunk;
+      low = entry .low;
+      high = entry .high;
+      field = entry .field;
+      shift = entry .shift;
+      mc = entry .mc;
+      located = entry .located;
+      near = near;
+      starts = entry .starts;
+      words = words;
+      sized = p .sized;
+      fewWords = λ z. absurd (some z);
+      wordLow = λ z. absurd (some z);
+      wordHigh = λ z. absurd (some z);
+      wordBytes = λ _. search shown;
+      some = λ _. search shown;
+      ends = λ _. search shown;
+      behind = λ _. search shown;
+      inside = λ _. search shown;
     })
     (p .done)

@@ -1,11 +1,9 @@
 -- Which states of stage Object a walk can reach.
-use Prim.Native.Nat.{ℕ, _+_, _*_, _-_, _^_, _≤_, _<_}
+use Prim.Native.Nat.{_+_, _*_, _-_, _^_, _≤_, _<_}
 use mathlib.Core.Bool.{Bool, true, _&&_}
 use mathlib.Core.Path.{_≡_}
 use lib.Dec.{ltb, leb, eqb}
 use Rattle.streaming.specs.Choose.{if_then_else_}
-use Rattle.streaming.specs.declared.FlatHeader.{FlatHeader}
-use Rattle.streaming.specs.declared.MapCursor.{MapCursor}
 use Rattle.streaming.specs.declared.FlatWalker.{FlatWalker}
 use Rattle.rules.specs.Object.{mayStart, mayEnd}
 use Rattle.chunk.specs.Fit.{inChunk, InChunk}

@@ -42,7 +42,9 @@ fn object_done(s: FlatWalker) -> bool
     let len = s.ms_len as u64;
     let size = s.size as u64;
     ((1 <= s.words) & (s.words <= 2) & (len == two) & (0 < size))
-        & (may_end(h, s.object, s.object + len + size + 2) & (len <= done) & (done < len + size + 2))
+        & (may_end(h, s.object, s.object + len + size + 2)
+            & (len <= done)
+            & (done < len + size + 2))
 }
 
 // The Rust's own test of a saved state.

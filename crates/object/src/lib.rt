@@ -3,7 +3,6 @@ ghost use mathlib.Core.Path.{_≡_};
 ghost use Prim.Native.Nat.{_+_, _-_, _%_, _<_, _≤_, _^_};
 ghost use lib.ListN.{length, take};
 ghost use lib.Seq.{sets};
-ghost use Rattle.streaming.specs.State.{fell as State·fell};
 ghost use Rattle.rules.specs.Object.{mayStart};
 ghost use Rattle.object.specs.Object.{enterObject, objectEnd, requestObject, feedWord, feedObjectData, feedObjectCrc, feedObject};
 ghost use Rattle.object.specs.Fit.{FitObject};
@@ -11,7 +10,6 @@ use header::header_end;
 use header::map_end;
 use header::map_start;
 use streaming::Answer;
-use streaming::Failure;
 use streaming::Fault;
 use streaming::Fed;
 use streaming::FlatHeader;
@@ -20,24 +18,11 @@ use streaming::Part;
 use streaming::Request;
 use streaming::Stage;
 use streaming::Step;
-use streaming::StreamError;
+use streaming::fell;
 
 pub mod fit;
 mod verdict;
 mod words;
-
-// A fault is answered and held.
-fn fell(s: FlatWalker, f: Fault) -> Fed
-    ensures { λ r. ⌜ r ≡ State·fell f s ⌝ }
-{
-    Fed {
-        answer: Answer::Refused(StreamError::Fault(f)),
-        state: FlatWalker {
-            failure: Failure::Held(f),
-            ..s
-        },
-    }
-}
 
 // Whether an object may start at a location: behind the header, two bytes inside the source, and not in the map.
 pub fn may_start(h: FlatHeader, location: u64) -> bool
@@ -46,7 +31,9 @@ pub fn may_start(h: FlatHeader, location: u64) -> bool
 {
     let from = map_start(h);
     let end = map_end(h);
-    (header_end(h) <= location) & (location + 2 <= h.length) & !((from <= location) & (location < end))
+    (header_end(h) <= location)
+        & (location + 2 <= h.length)
+        & !((from <= location) & (location < end))
 }
 
 // An object is entered at once: a location where none may start is answered by the call that brings it.
@@ -72,11 +59,11 @@ pub fn enter_object(s: FlatWalker, location: u64) -> Fed
     }
     let m = s.map;
     fell(
-        s,
         Fault::ObjectRange {
             handle: m.handle,
             offset: location,
         },
+        s,
     )
 }
 

@@ -7,7 +7,6 @@ ghost use Rattle.rules.specs.Object.{named};
 ghost use Rattle.chunk.specs.Fit.{InChunk};
 ghost use Rattle.object.specs.Object.{leaveObject, keptPrologue, verdictOf, settleVerdict, settleObjectCrc};
 ghost use Rattle.object.specs.Fit.{FitObject};
-use crate::fell;
 use records::Head;
 use records::RecordFormat;
 use streaming::Answer;
@@ -18,6 +17,7 @@ use streaming::FlatWalker;
 use streaming::ObjectRecord;
 use streaming::Stage;
 use streaming::Step;
+use streaming::fell;
 
 // What a whole object turns out to be.
 pub enum Judged {
@@ -112,7 +112,7 @@ fn settle_verdict(s: FlatWalker, field: [u8; 4], v: Judged) -> Fed
                 state: t,
             }
         }
-        Judged::Fails(f) => fell(s, f),
+        Judged::Fails(f) => fell(f, s),
     }
 }
 
@@ -127,11 +127,11 @@ pub fn settle_object_crc(s: FlatWalker, field: [u8; 4], stored: u16) -> Fed
     }
     let m = s.map;
     fell(
-        s,
         Fault::ObjectCrc {
             handle: m.handle,
             expected: s.crc,
             actual: stored,
         },
+        s,
     )
 }

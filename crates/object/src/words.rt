@@ -7,7 +7,6 @@ ghost use Rattle.octets.specs.Octets.{littleEndian};
 ghost use Rattle.rules.specs.Object.{mayEnd};
 ghost use Rattle.object.specs.Object.{settleObjectSize, settleWord};
 ghost use Rattle.object.specs.Fit.{FitObject};
-use crate::fell;
 use header::map_end;
 use header::map_start;
 use streaming::Answer;
@@ -16,6 +15,7 @@ use streaming::Fed;
 use streaming::FlatHeader;
 use streaming::FlatWalker;
 use streaming::Step;
+use streaming::fell;
 
 // Whether an object may end there: inside the source, with no byte of the map in its span.
 pub fn may_end(h: FlatHeader, location: u64, end: u64) -> bool
@@ -34,7 +34,7 @@ fn settle_object_size(s: FlatWalker, done: u32, size: u32, crc: u16, field: [u8;
     let h = s.header;
     let m = s.map;
     if size == 0 {
-        return fell(s, Fault::ObjectSize(m.handle));
+        return fell(Fault::ObjectSize(m.handle), s);
     }
     if may_end(h, s.object, s.object + done as u64 + size as u64 + 2) {
         return Fed {
@@ -51,11 +51,11 @@ fn settle_object_size(s: FlatWalker, done: u32, size: u32, crc: u16, field: [u8;
         };
     }
     fell(
-        s,
         Fault::ObjectRange {
             handle: m.handle,
             offset: s.object,
         },
+        s,
     )
 }
 
@@ -98,5 +98,5 @@ pub fn settle_word(s: FlatWalker, done: u32, crc: u16, field: [u8; 4], word: u16
         };
     }
     let m = s.map;
-    fell(s, Fault::ObjectSize(m.handle))
+    fell(Fault::ObjectSize(m.handle), s)
 }

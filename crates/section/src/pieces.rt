@@ -10,7 +10,6 @@ use crate::SEED;
 use crate::hand::part_number;
 use crate::hand::part_of;
 use crate::sentinels::spells;
-use crate::settle::fell;
 use crate::settle::settle_section;
 use crate::settle::settle_section_crc;
 use crate::settle::settle_section_size;
@@ -23,6 +22,7 @@ use streaming::Fault;
 use streaming::Fed;
 use streaming::FlatWalker;
 use streaming::Step;
+use streaming::fell;
 
 // A piece of the start sentinel, which is compared piece by piece.
 pub fn feed_section_start(s: FlatWalker, piece: &[u8]) -> Fed

@@ -1,7 +1,6 @@
 // What the last byte of a field of a section does: the field is whole, and is held against the rest.
 ghost use mathlib.Core.Path.{_≡_};
 ghost use Prim.Native.Nat.{_≤_};
-ghost use Rattle.streaming.specs.State.{fell as State·fell};
 ghost use Rattle.section.specs.Section.{enterNext, settleSectionSize, settleSectionCrc, settleSection};
 ghost use Rattle.section.specs.Fit.{FitSection};
 use crate::FRAME;
@@ -12,27 +11,13 @@ use crate::hand::section;
 use chunk::enter_chunk;
 use header::map_start;
 use streaming::Answer;
-use streaming::Failure;
 use streaming::Fault;
 use streaming::Fed;
 use streaming::FlatWalker;
 use streaming::SectionRecord;
 use streaming::Stage;
 use streaming::Step;
-use streaming::StreamError;
-
-// A fault is answered and held.
-pub fn fell(f: Fault, s: FlatWalker) -> Fed
-    ensures { λ r. ⌜ r ≡ State·fell f s ⌝ }
-{
-    Fed {
-        answer: Answer::Refused(StreamError::Fault(f)),
-        state: FlatWalker {
-            failure: Failure::Held(f),
-            ..s
-        },
-    }
-}
+use streaming::fell;
 
 // The size is whole: with the frame it has to be the locator's.
 pub fn settle_section_size(s: FlatWalker, crc: u16, field: [u8; 4], size: u32) -> Fed

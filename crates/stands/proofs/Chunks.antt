@@ -24,7 +24,7 @@ use Rattle.account.specs.Account.{Account, over, demand, framing}
 use Rattle.account.specs.Asking.{Turn, go, span, passing}
 use Rattle.account.specs.Statement.{part}
 use Rattle.account.proofs.Parts.{length-part}
-use Rattle.account.proofs.Walks.{together, Phase, On, stop, lands-go, phase-on}
+use Rattle.account.proofs.Walks.{Phase, On, stop, lands-go, phase-on}
 use Rattle.rules.specs.Bytes.{seed, checksum}
 use Rattle.rules.specs.Header.{mapStart, mapSize, mapEnd}
 use Rattle.rules.specs.Map.{chunkSize, chunkComputed, chunkStored, chunkEntries, chunkFits, chunkTurn, chunkCrcTurn, chunkSizeTurn, askChunks}
@@ -64,13 +64,13 @@ module _ (s : FlatWalker) (chunk : ℕ) (sound : s .failure ≡ failure.None) wh
   unfolding bareRequest requestChunk
   asks d z c f at left e k = rw sound (ap₂ demand e (omega (arith, k)))
 
-  size-phase : (c : ℕ) (f : List ℕ) → Phase bare together chunk 2 framing (λ q. within (length q) 0 c (sets f 0 q))
+  size-phase : (c : ℕ) (f : List ℕ) → Phase bare chunk 2 framing (λ q. within (length q) 0 c (sets f 0 q))
       (λ q w. outcome (settleChunkSize (within (length q) 0 c (sets f 0 q)) (sets f 0 w) (bigEndian (take 2 (sets f 0 w)))))
   unfolding bareFeed feedChunk feedChunkSize if_then_else_
   size-phase c f =
       record {
         asking = λ q l. asks (length q) 0 c _ _ _ refl (omega (arith, end-size (length q) 0 l));
-        taking = λ q p a l b.
+        taking = λ q p a b.
             let x : length q + length p ≡ length (q ++ p) = sym (length-append q p) in
             let y : sets (sets f 0 q) (length q) p ≡ sets f 0 (q ++ p) = rw zero-add at (sets-append f 0 q p) in
             rw (lt-ltb (length q) 2 (omega arith), y, x) (outcome-if (eqb (length (q ++ p)) 2) _ _);
@@ -78,26 +78,26 @@ module _ (s : FlatWalker) (chunk : ℕ) (sound : s .failure ≡ failure.None) wh
 
   -- z counts the size too
   entries-phase : (z c : ℕ) (f : List ℕ)
-      → Phase bare together (chunk + 2) (z - 2) framing (λ q. within (2 + length q) z (crcOf c q) f)
+      → Phase bare (chunk + 2) (z - 2) framing (λ q. within (2 + length q) z (crcOf c q) f)
       (λ q w. (framing, within (2 + length w) z (crcOf c w) f))
   unfolding bareFeed feedChunk feedChunkEntries if_then_else_
   entries-phase z c f =
       record {
         asking = λ q l. asks (2 + length q) z _ f _ _ (omega arith) (omega (arith, end-entries (2 + length q) z (omega arith) (omega arith)));
-        taking = λ q p a l b.
+        taking = λ q p a b.
             let x : 2 + length q + length p ≡ 2 + length (q ++ p) = omega (arith, length-append q p) in
             rw (le-ltb (2 + length q) 2 (omega arith), lt-ltb (2 + length q) z (omega arith), ← crc-append c q p, x)
             (if-alike (eqb (length q + length p) (z - 2)) (framing, within (2 + length (q ++ p)) z (crcOf c (q ++ p)) f));
       }
 
   crc-phase : (z c : ℕ) (f : List ℕ) → 2 ≤ z
-      → Phase bare together (chunk + z) 2 framing (λ q. within (z + length q) z c (sets f 0 q))
+      → Phase bare (chunk + z) 2 framing (λ q. within (z + length q) z c (sets f 0 q))
       (λ q w. outcome (settleChunkCrc (within (z + length q) z c (sets f 0 q)) (sets f 0 w) (bigEndian (take 2 (sets f 0 w)))))
   unfolding bareFeed feedChunk feedChunkCrc if_then_else_
   crc-phase z c f h =
       record {
         asking = λ q l. asks (z + length q) z c _ _ _ (omega arith) (omega (arith, end-crc (z + length q) z (omega arith) (omega arith)));
-        taking = λ q p a l b.
+        taking = λ q p a b.
             let x : z + length q + length p ≡ z + length (q ++ p) = omega (arith, length-append q p) in
             let y : z + length q - z ≡ 0 + length q = omega arith in
             rw (

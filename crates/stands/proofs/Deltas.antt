@@ -28,7 +28,7 @@ use Rattle.account.specs.Asking.{Turn, bad, oneByOne}
 use Rattle.account.specs.Statement.{part}
 use Rattle.account.proofs.Demands.{one-span, one-add}
 use Rattle.account.proofs.Parts.{part-cons}
-use Rattle.account.proofs.Walks.{together, Phase, On, lands-go, phase-on}
+use Rattle.account.proofs.Walks.{Phase, On, lands-go, phase-on}
 use Rattle.rules.specs.Entry.{before, groupsOf, deltaIn, handleDelta, magnitude, isBack, signed, moved}
 use Rattle.rules.proofs.Entry.{Short, groups-short, back-more}
 use Rattle.entry.specs.Entry.{requestEntry, bitsOf, movedBy, settleLocation, settleHandle, moreGroups, settleGroup, feedEntry}
@@ -98,9 +98,9 @@ module _ (src : List ℕ) (s : FlatWalker) (chunk len handle loc field : ℕ) wh
       unfolding bareFeed
       takes p = ap (λ (g : Stage). outcome (feedAt g here p)) walks
 
-      byte-phase : Phase bare together at 1 framing (λ q. here) (λ q w. outcome (feedEntry here (getD w 0 0)))
+      byte-phase : Phase bare at 1 framing (λ q. here) (λ q w. outcome (feedEntry here (getD w 0 0)))
       unfolding if_then_else_
-      byte-phase = record { asking = λ q l. asks ∙ ap₂ demand (omega arith) (omega arith); taking = λ q p a l k. takes p ∙ taken q p a k }
+      byte-phase = record { asking = λ q l. asks ∙ ap₂ demand (omega arith) (omega arith); taking = λ q p a k. takes p ∙ taken q p a k }
         where
           taken : (q p : List ℕ) → 0 < length p → length q + length p ≤ 1
               → outcome (feedEntry here (getD p 0 0))

@@ -1,4 +1,5 @@
 pub mod Bare
+pub mod Fitness
 pub mod Landing
 pub mod ObjectDemands
 pub mod Objects
@@ -8,3 +9,9 @@ pub mod Deltas
 pub mod Entries
 pub mod Chunks
 pub mod Walk
+pub mod Meets
+pub mod Fronts
+pub mod Main
+pub mod EveryStep
+pub mod WholeCase
+pub mod Useless

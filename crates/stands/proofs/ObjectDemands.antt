@@ -19,7 +19,7 @@ use Rattle.streaming.specs.declared.Stage.the-variants as stage
 use Rattle.streaming.specs.declared.Failure.the-variants as failure
 use Rattle.streaming.specs.declared.FlatWalker.{FlatWalker}
 use Rattle.account.specs.Account.{demand, framing, payload}
-use Rattle.account.proofs.Walks.{together, Phase}
+use Rattle.account.proofs.Walks.{Phase}
 use Rattle.object.specs.Object.{objectEnd, requestObject, settleWord, settleObjectCrc}
 use Rattle.object.specs.Object.{feedWord, feedObjectData, feedObjectCrc, feedObject}
 use Rattle.stands.proofs.Bare.{bareRequest, bareFeed, outcome, bare}
@@ -57,14 +57,14 @@ module _ (s : FlatWalker) (location : ℕ) (sound : s .failure ≡ failure.None)
 
   -- a size word, k bytes behind the location
   pub word-phase : (k z c : ℕ) (f h : List ℕ) (wd : ℕ) → k % 2 ≡ 0
-      → Phase bare together (location + k) 2 framing (λ q. inside (k + length q) z (crcOf c q) (sets f 0 q) h 0 wd)
+      → Phase bare (location + k) 2 framing (λ q. inside (k + length q) z (crcOf c q) (sets f 0 q) h 0 wd)
       (λ q w. outcome (settleWord (inside (k + length q) z (crcOf c q) (sets f 0 q) h 0 wd) (k + length w) (crcOf c w) (sets f 0 w)
       (littleEndian (take 2 (sets f 0 w)))))
   unfolding bareFeed feedObject feedWord if_then_else_
   word-phase k z c f h wd e =
       record {
         asking = λ q l. asks (k + length q) z _ _ h 0 wd _ _ (omega arith) (omega (arith, end-word (k + length q) z 0 refl));
-        taking = λ q p a l b.
+        taking = λ q p a b.
             let x : k + length q + length p ≡ k + length (q ++ p) = omega (arith, length-append q p) in
             let y : (k + length q) % 2 ≡ 0 + length q = omega arith in
             rw (
@@ -78,13 +78,13 @@ module _ (s : FlatWalker) (location : ℕ) (sound : s .failure ≡ failure.None)
       }
 
   pub data-phase : (z c : ℕ) (f h : List ℕ) (ms wd : ℕ) → 0 < ms
-      → Phase bare together (location + ms) z (payload Object) (λ q. inside (ms + length q) z (crcOf c q) f (sets h 0 (take 16 q)) ms wd)
+      → Phase bare (location + ms) z (payload Object) (λ q. inside (ms + length q) z (crcOf c q) f (sets h 0 (take 16 q)) ms wd)
       (λ q w. (payload Object, inside (ms + length w) z (crcOf c w) f (sets h 0 (take 16 w)) ms wd))
   unfolding bareFeed feedObject feedObjectData if_then_else_
   data-phase z c f h ms wd n =
       record {
         asking = λ q l. asks (ms + length q) z _ f _ ms wd _ _ (omega arith) (omega (arith, end-data (ms + length q) z ms n (omega arith)));
-        taking = λ q p a l b.
+        taking = λ q p a b.
             let x : ms + length q + length p ≡ ms + length (q ++ p) = omega (arith, length-append q p) in
             let y : ms + length q - ms ≡ length q = omega arith in
             rw (ne-eqb ms 0 (omega arith), lt-ltb (ms + length q) (ms + z) (omega arith), y, sets-front h 16 q p, ← crc-append c q p, x)
@@ -93,13 +93,13 @@ module _ (s : FlatWalker) (location : ℕ) (sound : s .failure ≡ failure.None)
       }
 
   pub crc-phase : (z c : ℕ) (f h : List ℕ) (ms wd : ℕ) → 0 < ms
-      → Phase bare together (location + ms + z) 2 framing (λ q. inside (ms + z + length q) z c (sets f 0 q) h ms wd)
+      → Phase bare (location + ms + z) 2 framing (λ q. inside (ms + z + length q) z c (sets f 0 q) h ms wd)
       (λ q w. outcome (settleObjectCrc (inside (ms + z + length q) z c (sets f 0 q) h ms wd) (sets f 0 w) (littleEndian (take 2 (sets f 0 w)))))
   unfolding bareFeed feedObject feedObjectCrc if_then_else_
   crc-phase z c f h ms wd n =
       record {
         asking = λ q l. asks (ms + z + length q) z c _ h ms wd _ _ (omega arith) (omega (arith, end-crc (ms + z + length q) z ms n (omega arith)));
-        taking = λ q p a l b.
+        taking = λ q p a b.
             let x : ms + z + length q + length p ≡ ms + z + length (q ++ p) = omega (arith, length-append q p) in
             let y : ms + z + length q - (ms + z) ≡ 0 + length q = omega arith in
             rw (

@@ -68,7 +68,7 @@ module _ (src : List ℕ) (s : FlatWalker) (location : ℕ) (sound : s .failure 
 
   -- what is asked for behind the data
   abbrev askCrc : (ms z : ℕ) → Account
-  askCrc ms z = span src (location + ms + z) 2 framing (verdictTurn (s .header) src handle location next (verdict (s .header) src handle location ms z))
+  askCrc ms z = span src (location + ms + z) 2 framing (verdictTurn next (verdict (s .header) src handle location ms z))
 
   abbrev sizeTurn : Size → Turn
   sizeTurn = objectSizeTurn (s .header) src handle location next
@@ -81,7 +81,7 @@ module _ (src : List ℕ) (s : FlatWalker) (location : ℕ) (sound : s .failure 
   wordTurn v x = if isLast v then sizeTurn x else go framing (span src (location + 2) 2 framing (sizeTurn x))
 
   verdict-lands : (d z c : ℕ) (f h : List ℕ) (ms wd : ℕ) (field : List ℕ) → length field ≡ 4 → length h ≡ 16 → (v : Verdict)
-      → Land src (settleVerdict (inside d z c f h ms wd) field v) (verdictTurn (s .header) src handle location next v)
+      → Land src (settleVerdict (inside d z c f h ms wd) field v) (verdictTurn next v)
   unfolding settleVerdict verdictTurn
   verdict-lands d z c f h ms wd field n m (holds r) = lands-go bare src (after (ms + z + 2) z c ms wd field h n m)
   verdict-lands d z c f h ms wd field n m (fails x) = land-fell src (inside d z c f h ms wd) x
@@ -89,13 +89,13 @@ module _ (src : List ℕ) (s : FlatWalker) (location : ℕ) (sound : s .failure 
   crc-lands : (d z c : ℕ) (f h : List ℕ) (ms wd : ℕ) (field : List ℕ) (x : ℕ) → length field ≡ 4 → length h ≡ 16
       → x ≡ objectStored src location ms z → c ≡ objectComputed src location ms z → take (min z 16) h ≡ take 16 (part src (location + ms) z)
       → Land src (settleObjectCrc (inside d z c f h ms wd) field x)
-      (verdictTurn (s .header) src handle location next (verdict (s .header) src handle location ms z))
+      (verdictTurn next (verdict (s .header) src handle location ms z))
   unfolding settleObjectCrc verdict verdictTurn if_then_else_
   crc-lands d z c f h ms wd field x n m ex ec eh = rw (← ex, ← ec, ← eh) (split (eqb x c))
     where
       split : (b : Bool) → Land src (if b then settleVerdict (inside d z c f h ms wd) field
           (named handle location z (prologueOf (isR2000 (s .header)) (take (min z 16) h))) else fell (fault.ObjectCrc handle c x) (inside d z c f h ms wd))
-          (verdictTurn (s .header) src handle location next
+          (verdictTurn next
           (if b then named handle location z (prologueOf (isR2000 (s .header)) (take (min z 16) h)) else fails (fault.ObjectCrc handle c x)))
       split true = verdict-lands d z c f h ms wd field n m _
       split false = land-fell src (inside d z c f h ms wd) (fault.ObjectCrc handle c x)

@@ -25,7 +25,7 @@ use Rattle.streaming.specs.declared.Failure.the-variants as failure
 use Rattle.streaming.specs.declared.FlatWalker.{FlatWalker}
 use Rattle.account.specs.Account.{demand, framing, payload}
 use Rattle.account.specs.Statement.{part}
-use Rattle.account.proofs.Walks.{together, Phase, Spelled}
+use Rattle.account.proofs.Walks.{Phase, Spelled}
 use Rattle.rules.specs.Bytes.{seed}
 use Rattle.rules.specs.Header.{locatorOf}
 use Rattle.rules.specs.Section.{startSentinel, endSentinel}
@@ -120,13 +120,13 @@ module _ (s : FlatWalker) (g : Stage) (isg : InSection g) (sound : s .failure �
         broke = λ d. failing-asks (inside d 0 (startCrc c d) f) wrong;
       }
 
-  pub size-phase : (f : List ℕ) → Phase bare together (offset + 16) 4 framing (λ q. inside (16 + length q) 0 (crcOf seed q) (sets f 0 q))
+  pub size-phase : (f : List ℕ) → Phase bare (offset + 16) 4 framing (λ q. inside (16 + length q) 0 (crcOf seed q) (sets f 0 q))
       (λ q w. outcome (settleSectionSize (inside (16 + length q) 0 (crcOf seed q) (sets f 0 q)) (crcOf seed w) (sets f 0 w) (littleEndian (sets f 0 w))))
   unfolding feedSection feedSectionSize if_then_else_
   size-phase f =
       record {
         asking = λ q l. asks (16 + length q) 0 _ _ _ _ (omega arith) (omega (arith, end-size (16 + length q) 0 (omega arith) (omega arith)));
-        taking = λ q p a l b.
+        taking = λ q p a b.
             let x : 16 + length q + length p ≡ 16 + length (q ++ p) = omega (arith, length-append q p) in
             let y : 16 + length q - 16 ≡ 0 + length q = omega arith in
             fed (16 + length q) 0 _ _ p
@@ -142,13 +142,13 @@ module _ (s : FlatWalker) (g : Stage) (isg : InSection g) (sound : s .failure �
             (outcome-if (eqb (length q + length p) 4) _ _);
       }
 
-  pub data-phase : (z c : ℕ) (f : List ℕ) → Phase bare together (offset + 20) z (payload (partOf g)) (λ q. inside (20 + length q) z (crcOf c q) f)
+  pub data-phase : (z c : ℕ) (f : List ℕ) → Phase bare (offset + 20) z (payload (partOf g)) (λ q. inside (20 + length q) z (crcOf c q) f)
       (λ q w. (payload (partOf g), inside (20 + length w) z (crcOf c w) f))
   unfolding feedSection feedSectionData if_then_else_
   data-phase z c f =
       record {
         asking = λ q l. asks (20 + length q) z _ f _ _ (omega arith) (omega (arith, end-data (20 + length q) z (omega arith) (omega arith)));
-        taking = λ q p a l b.
+        taking = λ q p a b.
             let x : 20 + length q + length p ≡ 20 + length (q ++ p) = omega (arith, length-append q p) in
             fed (20 + length q) z _ f p
             ∙ rw (
@@ -161,13 +161,13 @@ module _ (s : FlatWalker) (g : Stage) (isg : InSection g) (sound : s .failure �
             (if-alike (eqb (length q + length p) z) (payload (partOf g), inside (20 + length (q ++ p)) z (crcOf c (q ++ p)) f));
       }
 
-  pub crc-phase : (z c : ℕ) (f : List ℕ) → Phase bare together (offset + 20 + z) 2 framing (λ q. inside (20 + z + length q) z c (sets f 0 q))
+  pub crc-phase : (z c : ℕ) (f : List ℕ) → Phase bare (offset + 20 + z) 2 framing (λ q. inside (20 + z + length q) z c (sets f 0 q))
       (λ q w. outcome (settleSectionCrc (inside (20 + z + length q) z c (sets f 0 q)) (sets f 0 w) (littleEndian (take 2 (sets f 0 w)))))
   unfolding feedSection feedSectionCrc if_then_else_
   crc-phase z c f =
       record {
         asking = λ q l. asks (20 + z + length q) z c _ _ _ (omega arith) (omega (arith, end-crc (20 + z + length q) z (omega arith) (omega arith)));
-        taking = λ q p a l b.
+        taking = λ q p a b.
             let x : 20 + z + length q + length p ≡ 20 + z + length (q ++ p) = omega (arith, length-append q p) in
             let y : 20 + z + length q - (20 + z) ≡ 0 + length q = omega arith in
             fed (20 + z + length q) z c _ p

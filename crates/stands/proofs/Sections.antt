@@ -45,7 +45,7 @@ module _ (src : List ℕ) (s : FlatWalker) (g : Stage) (isg : InSection g) (soun
   abbrev inside : (done size crc : ℕ) (field : List ℕ) → FlatWalker
   inside = inUnit s g
 
-  end-on : (z c : ℕ) (f : List ℕ) → length f ≡ 4 → On bare src (inside (22 + z) z c f) (askSectionEnd src (partOf g) start total next z)
+  end-on : (z c : ℕ) (f : List ℕ) → length f ≡ 4 → On bare src (inside (22 + z) z c f) (askSectionEnd src (partOf g) start next z)
   unfolding askSectionEnd settleSection
   end-on z c f n =
       let m : length (endSentinel (partOf g)) ≡ 16 = length-end (is-section isg) in
@@ -54,7 +54,7 @@ module _ (src : List ℕ) (s : FlatWalker) (g : Stage) (isg : InSection g) (soun
 
   crc-lands : (d z c : ℕ) (f field : List ℕ) (x : ℕ) → length field ≡ 4 → x ≡ sectionStored src start z → c ≡ sectionComputed src start z
       → Land src (settleSectionCrc (inside d z c f) field x)
-      (sectionCrcTurn src (partOf g) start total next z (sectionComputed src start z) (sectionStored src start z))
+      (sectionCrcTurn src (partOf g) start next z (sectionComputed src start z) (sectionStored src start z))
   unfolding settleSectionCrc sectionCrcTurn
   crc-lands d z c f field x n ex ec =
       rw (← ex, ← ec) (land-if src (eqb x c) (λ t. lands-go bare src (end-on z c field n))
@@ -63,7 +63,7 @@ module _ (src : List ℕ) (s : FlatWalker) (g : Stage) (isg : InSection g) (soun
   -- what is asked for behind the data
   abbrev askCrc : (z : ℕ) → Account
   askCrc z =
-      span src (start + 20 + z) 2 framing (sectionCrcTurn src (partOf g) start total next z (sectionComputed src start z) (sectionStored src start z))
+      span src (start + 20 + z) 2 framing (sectionCrcTurn src (partOf g) start next z (sectionComputed src start z) (sectionStored src start z))
 
   crc-on : (z c : ℕ) (f : List ℕ) → length f ≡ 4 → c ≡ sectionComputed src start z → On bare src (inside (20 + z) z c f) (askCrc z)
   unfolding sectionStored
@@ -77,7 +77,7 @@ module _ (src : List ℕ) (s : FlatWalker) (g : Stage) (isg : InSection g) (soun
   abbrev sizeCrc : ℕ
   sizeCrc = checksum (part src (start + 16) 4)
 
-  data-on : (z : ℕ) (f : List ℕ) → length f ≡ 4 → On bare src (inside 20 z sizeCrc f) (askSectionData src (partOf g) start total next z)
+  data-on : (z : ℕ) (f : List ℕ) → length f ≡ 4 → On bare src (inside 20 z sizeCrc f) (askSectionData src (partOf g) start next z)
   unfolding askSectionData span sectionComputed crcOf
   data-on z f n = split (eqb z 0) refl
     where

@@ -1,52 +1,41 @@
-use lib.Seq.{sets, take-all, length-take-le}
-use Prim.Native.Nat.{_+_, _-_, _≤_}
-use lib.ListN.{length, take, length-take}
+-- `kept` meets its contract.
+use Prim.Native.Nat.{_-_}
 use mathlib.Core.Path.{_≡_}
 use native.Mathlib.Omega.{arith}
+use lib.ListN.{length-take}
+use lib.Seq.{take-all}
 use borrow.Author.Needs.{needs}
 use Rattle.object.proofs.kept.Statement.{statement}
 use Rattle.object.proofs.kept.Tie as tie
-use Rattle.object.proofs.kept.Reads as reads
-use Rattle.object.proofs.kept.Lts as lts
-use Rattle.octets.proofs.copy_in.Reads as copy-in-reads
 
--- src/lib.rt:137:20
 sub-room : tie.Need-sub-room
 sub-room c = search needs
 
--- src/lib.rt:139:29
 slice-aggregate-copy-in : tie.Need-slice-aggregate-copy-in
 slice-aggregate-copy-in c = search needs
 
--- src/lib.rt:139:13
 copy-in-requires : tie.Need-copy-in-requires
 copy-in-requires c κs = search needs
 
--- src/lib.rt:140:13
 returns : tie.Need-returns
-returns c = 
+returns c =
     let a = c .before .before .before .before .before .before .args in
     rw (take-all (16 - a .at) (a .piece .now) (omega arith)) (c .before .copy-in .ensures)
 
--- src/lib.rt:142:25
 slice-aggregate-copy-in-2 : tie.Need-slice-aggregate-copy-in-2
 slice-aggregate-copy-in-2 c = search needs
 
--- src/lib.rt:142:37
 slice-aggregate-copy-in-3 : tie.Need-slice-aggregate-copy-in-3
 slice-aggregate-copy-in-3 c = simp length-take (omega arith)
 
--- src/lib.rt:142:9
 copy-in-requires-2 : tie.Need-copy-in-requires-2
 copy-in-requires-2 c κs = simp length-take (search needs)
 
--- src/lib.rt:132:1
 returns-2 : tie.Need-returns-2
 returns-2 c = search needs
 
--- src/lib.rt:132:1
 returns-3 : tie.Need-returns-3
-returns-3 c = 
+returns-3 c =
     let z : 16 - c .before .before .args .at ≡ 0 = omega arith in
     rw z
 

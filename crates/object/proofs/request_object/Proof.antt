@@ -1,30 +1,23 @@
-use Rattle.object.proofs.Demand.{ends-ahead}
-use Rattle.object.specs.Object.{requestObject}
+-- `request_object` meets its contract.
 use native.Mathlib.Omega.{arith}
+use Rattle.object.specs.Object.{requestObject}
+use Rattle.object.proofs.Demand.{ends-ahead}
 use borrow.Author.Needs.{needs}
 use Rattle.object.proofs.request_object.Statement.{statement}
 use Rattle.object.proofs.request_object.Tie as tie
-use Rattle.object.proofs.request_object.Reads as reads
-use Rattle.object.proofs.request_object.Lts as lts
-use Rattle.object.proofs.object_end.Reads as object-end-reads
 
--- src/lib.rt:97:13
 cast-d : tie.Need-cast-d
 cast-d c = search needs
 
--- src/lib.rt:98:9
 object-end-requires : tie.Need-object-end-requires
 object-end-requires c κs = search needs
 
--- src/lib.rt:100:17
 add-t4 : tie.Need-add-t4
 add-t4 c = search needs
 
--- src/lib.rt:101:14
 sub-t5 : tie.Need-sub-t5
 sub-t5 c = omega (arith, c .before .object-end .ensures, ends-ahead (c .before .before .before .args .s) (c .before .before .before .pre))
 
--- src/lib.rt:93:1
 returns : tie.Need-returns
 unfolding requestObject
 returns c = rw (c .before .object-end .ensures)

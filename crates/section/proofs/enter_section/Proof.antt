@@ -1,8 +1,8 @@
 -- `enter_section` meets its contract.
-use Rattle.section.specs.Section.{enterSection}
+use borrow.Author.Needs.{needs}
 use Rattle.streaming.specs.Choose.{if_then_else_}
 use Rattle.streaming.proofs.Cases.{cases}
-use borrow.Author.Needs.{needs}
+use Rattle.section.specs.Section.{enterSection}
 use Rattle.section.proofs.enter_section.Statement.{statement}
 use Rattle.section.proofs.enter_section.Tie as tie
 

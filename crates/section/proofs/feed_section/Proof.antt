@@ -1,9 +1,9 @@
--- `feed_section` meets its contract.
-use Rattle.section.proofs.Demand.{in-start, in-size, in-data, in-crc, in-end}
-use Rattle.streaming.proofs.Cases.{cases}
-use Rattle.section.specs.Section.{feedSection}
-use Rattle.streaming.specs.Choose.{if_then_else_}
+-- `feed_section` meets its contract: it makes the definition's tests, and a piece that fits the demand ends within the field.
 use borrow.Author.Needs.{needs}
+use Rattle.streaming.proofs.Cases.{cases}
+use Rattle.streaming.specs.Choose.{if_then_else_}
+use Rattle.section.specs.Section.{feedSection}
+use Rattle.section.proofs.Demand.{in-start, in-size, in-data, in-crc, in-end}
 use Rattle.section.proofs.feed_section.Statement.{statement}
 use Rattle.section.proofs.feed_section.Tie as tie
 

@@ -1,8 +1,8 @@
--- `fit_section` meets its contract.
-use Rattle.section.proofs.Fitness.{fit-section-shows}
-use Rattle.section.specs.Fit.{fitSection}
-use Rattle.streaming.proofs.Choose.{telling}
+-- `fit_section` meets its contract: each test is the definition's, and `Fitness` has what they show.
 use borrow.Author.Needs.{needs}
+use Rattle.streaming.proofs.Choose.{telling}
+use Rattle.section.specs.Fit.{fitSection}
+use Rattle.section.proofs.Fitness.{fit-section-shows}
 use Rattle.section.proofs.fit_section.Statement.{statement}
 use Rattle.section.proofs.fit_section.Tie as tie
 

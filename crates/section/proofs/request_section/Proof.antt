@@ -1,8 +1,8 @@
--- `request_section` meets its contract.
-use Rattle.section.specs.Section.{requestSection}
+-- `request_section` meets its contract: the demand ends behind what is done.
 use native.Mathlib.Omega.{arith}
-use Rattle.section.proofs.Demand.{end-behind}
 use borrow.Author.Needs.{needs}
+use Rattle.section.specs.Section.{requestSection}
+use Rattle.section.proofs.Demand.{end-behind}
 use Rattle.section.proofs.request_section.Statement.{statement}
 use Rattle.section.proofs.request_section.Tie as tie
 

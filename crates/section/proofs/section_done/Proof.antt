@@ -1,8 +1,8 @@
 -- `section_done` meets its contract.
-use Rattle.section.specs.Fit.{sectionDone}
+use borrow.Author.Needs.{needs}
 use Rattle.streaming.specs.Choose.{if_then_else_}
 use Rattle.streaming.proofs.Cases.{cases}
-use borrow.Author.Needs.{needs}
+use Rattle.section.specs.Fit.{sectionDone}
 use Rattle.section.proofs.section_done.Statement.{statement}
 use Rattle.section.proofs.section_done.Tie as tie
 

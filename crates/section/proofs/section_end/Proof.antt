@@ -1,8 +1,8 @@
 -- `section_end` meets its contract.
-use Rattle.section.specs.Section.{sectionEnd}
+use borrow.Author.Needs.{needs}
 use Rattle.streaming.specs.Choose.{if_then_else_}
 use Rattle.streaming.proofs.Cases.{cases}
-use borrow.Author.Needs.{needs}
+use Rattle.section.specs.Section.{sectionEnd}
 use Rattle.section.proofs.section_end.Statement.{statement}
 use Rattle.section.proofs.section_end.Tie as tie
 

@@ -1,42 +1,43 @@
-use Rattle.object.specs.Object.{keptPrologue}
-use Rattle.records.proofs.Answer.{nothing-is, opening-is}
-use Rattle.rules.specs.Object.{named, objectRecord}
+-- `judge` meets its contract.
 use borrow.Author.Tests.{eq-eqb, ne-eqb}
 use Rattle.streaming.specs.Choose.{if_then_else_}
-use mathlib.Core.Path.{_≡_, refl, sym, ap, _∙_}
+use Rattle.rules.specs.Object.{named, objectRecord}
+use Rattle.records.proofs.Answer.{nothing-is, opening-is}
+use Rattle.object.specs.Object.{keptPrologue}
 use borrow.Author.Needs.{needs}
 use Rattle.object.proofs.verdict.judge.Statement.{statement}
 use Rattle.object.proofs.verdict.judge.Tie as tie
-use Rattle.object.proofs.verdict.judge.Reads as reads
-use Rattle.object.proofs.verdict.judge.Lts as lts
-use Rattle.object.proofs.verdict.opening.Reads as opening-reads
 
--- src/verdict.rt:66:11
 opening-requires : tie.Need-opening-requires
 opening-requires c κs = search needs
 
--- src/verdict.rt:67:40
 enum-told : tie.Need-enum-told
 enum-told c = search needs
 
--- src/verdict.rt:68:20
 enum-known-o : tie.Need-enum-known-o
 enum-known-o c = search needs
 
--- src/verdict.rt:70:17
 returns : tie.Need-returns
 unfolding named objectRecord if_then_else_
-returns c = rw (opening-is (keptPrologue (c .before .before .before .before .before .before .before .before .args .s)) (c .before .before .before .before .before .before .opening .ensures) (c .before .before .before .before .o .given .1), eq-eqb _ _ (c .if1 .taken))
+returns c =
+    let asked = c .before .before .before .before .before .before in
+    rw (
+      opening-is (keptPrologue (asked .before .before .args .s)) (asked .opening .ensures) (c .before .before .before .before .o .given .1),
+      eq-eqb _ _ (c .if1 .taken)
+    )
 
--- src/verdict.rt:62:1
 returns-2 : tie.Need-returns-2
 unfolding named
 returns-2 c = rw (nothing-is (keptPrologue (c .before .before .before .before .args .s)) (c .before .before .opening .ensures) (c .enum-told .given .1))
 
--- src/verdict.rt:62:1
 returns-3 : tie.Need-returns-3
 unfolding named if_then_else_
-returns-3 c = rw (opening-is (keptPrologue (c .before .before .before .before .before .before .before .before .args .s)) (c .before .before .before .before .before .before .opening .ensures) (c .before .before .before .before .o .given .1), ne-eqb _ _ (c .if1 .left))
+returns-3 c =
+    let asked = c .before .before .before .before .before .before in
+    rw (
+      opening-is (keptPrologue (asked .before .before .args .s)) (asked .opening .ensures) (c .before .before .before .before .o .given .1),
+      ne-eqb _ _ (c .if1 .left)
+    )
 
 pub judge-spec : {M : Type 1} → statement M
 judge-spec =

@@ -1,49 +1,36 @@
-use Rattle.object.proofs.Demand.{size-small}
-use Rattle.object.specs.Object.{settleVerdict}
-use mathlib.Core.Path.{_≡_, refl, sym, ap, _∙_}
+-- `settle_verdict` meets its contract.
 use native.Mathlib.Omega.{arith}
+use Rattle.object.specs.Object.{settleVerdict}
+use Rattle.object.proofs.Demand.{span-small}
 use borrow.Author.Needs.{needs}
 use Rattle.object.proofs.verdict.settle_verdict.Statement.{statement}
 use Rattle.object.proofs.verdict.settle_verdict.Tie as tie
-use Rattle.object.proofs.verdict.settle_verdict.Reads as reads
-use Rattle.object.proofs.verdict.settle_verdict.Lts as lts
-use Rattle.object.proofs.fell.Reads as fell-reads
-use Rattle.object.proofs.verdict.leave_object.Reads as leave-object-reads
 
--- src/verdict.rt:98:23
 enum-known-v : tie.Need-enum-known-v
 enum-known-v c = search needs
 
--- src/verdict.rt:100:23
 cast-t9 : tie.Need-cast-t9
 cast-t9 c = search needs
 
--- src/verdict.rt:100:23
 add-t10 : tie.Need-add-t10
-add-t10 c = omega (arith, size-small _ (c .before .before .before .before .before .pre))
+add-t10 c = omega (arith, span-small _ (c .before .before .before .before .before .pre))
 
--- src/verdict.rt:100:23
 add-t11 : tie.Need-add-t11
-add-t11 c = omega (arith, size-small _ (c .before .before .before .before .before .pre))
+add-t11 c = omega (arith, span-small _ (c .before .before .before .before .before .pre))
 
--- src/verdict.rt:104:17
 leave-object-requires : tie.Need-leave-object-requires
 leave-object-requires c κs = search needs
 
--- src/verdict.rt:110:23
 enum-known-v-2 : tie.Need-enum-known-v-2
 enum-known-v-2 c = search needs
 
--- src/verdict.rt:110:29
 fell-requires : tie.Need-fell-requires
 fell-requires c κs = search needs
 
--- src/verdict.rt:93:1
 returns : tie.Need-returns
 unfolding settleVerdict
 returns c = rw (c .before .before .before .before .before .before .before .v .given .1, c .leave-object .ensures)
 
--- src/verdict.rt:93:1
 returns-2 : tie.Need-returns-2
 unfolding settleVerdict
 returns-2 c = rw (c .before .before .v2 .given .1) (c .fell .ensures)

@@ -1,62 +1,54 @@
-use Rattle.object.specs.Object.{settleObjectSize}
+-- `settle_object_size` meets its contract.
+use Prim.Native.Nat.{_<_}
+use native.Mathlib.Omega.{arith}
 use borrow.Author.Tests.{lt-ltb, le-ltb}
 use Rattle.streaming.specs.Choose.{if_then_else_}
-use Rattle.streaming.proofs.Cases.{cases}
-use native.Mathlib.Omega.{arith}
+use Rattle.object.specs.Object.{settleObjectSize}
 use borrow.Author.Needs.{needs}
 use Rattle.object.proofs.words.settle_object_size.Statement.{statement}
 use Rattle.object.proofs.words.settle_object_size.Tie as tie
-use Rattle.object.proofs.words.settle_object_size.Reads as reads
-use Rattle.object.proofs.words.settle_object_size.Lts as lts
-use Rattle.object.proofs.fell.Reads as fell-reads
-use Rattle.object.proofs.words.may_end.Reads as may-end-reads
 
--- src/words.rt:35:9
 fell-requires : tie.Need-fell-requires
 fell-requires c κs = search needs
 
--- src/words.rt:35:9
 returns : tie.Need-returns
 unfolding settleObjectSize if_then_else_
 returns c = rw (le-ltb 0 (c .before .before .before .before .args .size) (omega arith)) (c .fell .ensures)
 
--- src/words.rt:37:29
 add-may-end : tie.Need-add-may-end
 add-may-end c = search needs
 
--- src/words.rt:37:29
 add-may-end-2 : tie.Need-add-may-end-2
 add-may-end-2 c = search needs
 
--- src/words.rt:37:29
 add-may-end-3 : tie.Need-add-may-end-3
 add-may-end-3 c = search needs
 
--- src/words.rt:37:8
 may-end-requires : tie.Need-may-end-requires
 may-end-requires c κs = search needs
 
--- src/words.rt:45:25
 cast-t18 : tie.Need-cast-t18
 cast-t18 c = search needs
 
--- src/words.rt:46:24
 add-t19 : tie.Need-add-t19
 add-t19 c = search needs
 
--- src/words.rt:38:9
 returns-2 : tie.Need-returns-2
 unfolding settleObjectSize if_then_else_
-returns-2 c = rw (lt-ltb 0 (c .before .before .before .before .before .before .before .before .before .before .args .size) (omega arith), ← c .before .before .before .before .before .may-end .ensures, c .before .before .before .before .if2 .taken)
+returns-2 c =
+    let asked = c .before .before .before .before .before in
+    let some : 0 < asked .before .before .before .before .before .args .size = omega arith in
+    rw (lt-ltb _ _ some, ← asked .may-end .ensures, c .before .before .before .before .if2 .taken)
 
--- src/words.rt:51:5
 fell-requires-2 : tie.Need-fell-requires-2
 fell-requires-2 c κs = search needs
 
--- src/words.rt:28:1
 returns-3 : tie.Need-returns-3
 unfolding settleObjectSize if_then_else_
-returns-3 c = rw (lt-ltb 0 (c .before .before .before .before .before .before .before .args .size) (omega arith), ← c .before .before .may-end .ensures, c .before .if2 .left) (c .fell2 .ensures)
+returns-3 c =
+    let asked = c .before .before in
+    let some : 0 < asked .before .before .before .before .before .args .size = omega arith in
+    rw (lt-ltb _ _ some, ← asked .may-end .ensures, c .before .if2 .left) (c .fell2 .ensures)
 
 pub settle-object-size-spec : {M : Type 1} → statement M
 settle-object-size-spec =

@@ -1,14 +1,13 @@
--- `feed_section_crc` meets its contract.
-use Rattle.section.proofs.Bounds.{four-in-field}
-use Rattle.section.specs.Section.{feedSectionCrc}
-use Rattle.streaming.specs.Choose.{if_then_else_}
-use Rattle.section.proofs.Bounds.{late-lt}
-use Rattle.section.proofs.Fields.{two-bytes}
-use borrow.Author.Tests.{eq-eqb, ne-eqb}
+-- `feed_section_crc` meets its contract: the first two bytes of the field make the checksum.
+use mathlib.Core.Path.{_≡_}
 use native.Mathlib.Omega.{arith}
 use lib.ListN.{length}
-use mathlib.Core.Path.{_≡_}
+use borrow.Author.Tests.{eq-eqb, ne-eqb}
 use borrow.Author.Needs.{needs}
+use Rattle.streaming.specs.Choose.{if_then_else_}
+use Rattle.section.specs.Section.{feedSectionCrc}
+use Rattle.section.proofs.Bounds.{four-in-field, late-lt}
+use Rattle.section.proofs.Fields.{two-bytes}
 use Rattle.section.proofs.pieces.feed_section_crc.Statement.{statement}
 use Rattle.section.proofs.pieces.feed_section_crc.Tie as tie
 

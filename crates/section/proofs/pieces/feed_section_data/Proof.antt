@@ -1,8 +1,8 @@
 -- `feed_section_data` meets its contract.
-use Rattle.section.specs.Section.{feedSectionData}
-use Rattle.section.proofs.Bounds.{late-lt}
 use native.Mathlib.Omega.{arith}
 use borrow.Author.Needs.{needs}
+use Rattle.section.specs.Section.{feedSectionData}
+use Rattle.section.proofs.Bounds.{late-lt}
 use Rattle.section.proofs.pieces.feed_section_data.Statement.{statement}
 use Rattle.section.proofs.pieces.feed_section_data.Tie as tie
 

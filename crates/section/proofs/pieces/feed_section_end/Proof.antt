@@ -1,11 +1,10 @@
 -- `feed_section_end` meets its contract.
-use borrow.Author.Tests.{not-true, not-false}
+use native.Mathlib.Omega.{arith}
+use borrow.Author.Tests.{not-true, not-false, eq-eqb, ne-eqb}
+use borrow.Author.Needs.{needs}
+use Rattle.streaming.specs.Choose.{if_then_else_}
 use Rattle.section.specs.Section.{feedSectionEnd}
 use Rattle.section.proofs.Bounds.{late-lt}
-use Rattle.streaming.specs.Choose.{if_then_else_}
-use borrow.Author.Tests.{eq-eqb, ne-eqb}
-use native.Mathlib.Omega.{arith}
-use borrow.Author.Needs.{needs}
 use Rattle.section.proofs.pieces.feed_section_end.Statement.{statement}
 use Rattle.section.proofs.pieces.feed_section_end.Tie as tie
 

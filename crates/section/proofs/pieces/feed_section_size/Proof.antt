@@ -1,13 +1,13 @@
--- `feed_section_size` meets its contract.
-use Rattle.section.proofs.Bounds.{four-in-field}
-use Rattle.section.specs.Section.{feedSectionSize}
-use Rattle.streaming.specs.Choose.{if_then_else_}
-use Rattle.section.proofs.Fields.{four-bytes}
-use borrow.Author.Tests.{eq-eqb, ne-eqb}
+-- `feed_section_size` meets its contract: the four bytes of the field make the size.
+use mathlib.Core.Path.{_≡_}
 use native.Mathlib.Omega.{arith}
 use lib.ListN.{length}
-use mathlib.Core.Path.{_≡_}
+use borrow.Author.Tests.{eq-eqb, ne-eqb}
 use borrow.Author.Needs.{needs}
+use Rattle.streaming.specs.Choose.{if_then_else_}
+use Rattle.section.specs.Section.{feedSectionSize}
+use Rattle.section.proofs.Bounds.{four-in-field}
+use Rattle.section.proofs.Fields.{four-bytes}
 use Rattle.section.proofs.pieces.feed_section_size.Statement.{statement}
 use Rattle.section.proofs.pieces.feed_section_size.Tie as tie
 

@@ -1,7 +1,7 @@
 -- `feed_section_start` meets its contract.
-use Rattle.section.specs.Section.{feedSectionStart}
-use Rattle.streaming.specs.Choose.{if_then_else_}
 use borrow.Author.Needs.{needs}
+use Rattle.streaming.specs.Choose.{if_then_else_}
+use Rattle.section.specs.Section.{feedSectionStart}
 use Rattle.section.proofs.pieces.feed_section_start.Statement.{statement}
 use Rattle.section.proofs.pieces.feed_section_start.Tie as tie
 

@@ -1,6 +1,6 @@
--- `sentinel` meets its contract.
-use Rattle.rules.specs.Section.{sentinels}
+-- `sentinel` meets its contract: the code's table is the rules'.
 use borrow.Author.Needs.{needs}
+use Rattle.rules.specs.Section.{sentinels}
 use Rattle.section.proofs.sentinels.sentinel.Statement.{statement}
 use Rattle.section.proofs.sentinels.sentinel.Tie as tie
 

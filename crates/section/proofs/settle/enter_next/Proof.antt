@@ -1,5 +1,4 @@
--- `enter_next` meets its contract.
-
+-- `enter_next` meets its contract, stage by stage.
 use borrow.Author.Needs.{needs}
 use Rattle.section.proofs.settle.enter_next.Statement.{statement}
 use Rattle.section.proofs.settle.enter_next.Tie as tie

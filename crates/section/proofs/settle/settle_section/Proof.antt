@@ -1,7 +1,7 @@
 -- `settle_section` meets its contract.
-use Rattle.section.specs.Section.{settleSection}
-use Rattle.rules.specs.Section.{sectionRecord}
 use borrow.Author.Needs.{needs}
+use Rattle.rules.specs.Section.{sectionRecord}
+use Rattle.section.specs.Section.{settleSection}
 use Rattle.section.proofs.settle.settle_section.Statement.{statement}
 use Rattle.section.proofs.settle.settle_section.Tie as tie
 

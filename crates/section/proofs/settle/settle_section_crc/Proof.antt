@@ -1,11 +1,11 @@
--- `settle_section_crc` meets its contract.
-use Rattle.section.specs.Section.{settleSectionCrc}
+-- `settle_section_crc` meets its contract: a fit section ends below 2^32.
+use native.Mathlib.Omega.{arith}
+use borrow.Author.Tests.{ne-eqb}
+use borrow.Author.Needs.{needs}
 use Rattle.streaming.proofs.Cases.{cases}
 use Rattle.streaming.specs.Choose.{if_then_else_}
+use Rattle.section.specs.Section.{settleSectionCrc}
 use Rattle.section.proofs.Bounds.{late-lt}
-use borrow.Author.Tests.{ne-eqb}
-use native.Mathlib.Omega.{arith}
-use borrow.Author.Needs.{needs}
 use Rattle.section.proofs.settle.settle_section_crc.Statement.{statement}
 use Rattle.section.proofs.settle.settle_section_crc.Tie as tie
 

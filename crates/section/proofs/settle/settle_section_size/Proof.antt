@@ -1,9 +1,9 @@
 -- `settle_section_size` meets its contract.
 use borrow.Author.Tests.{ne-eqb}
-use Rattle.section.specs.Section.{settleSectionSize}
+use borrow.Author.Needs.{needs}
 use Rattle.streaming.proofs.Cases.{cases}
 use Rattle.streaming.specs.Choose.{if_then_else_}
-use borrow.Author.Needs.{needs}
+use Rattle.section.specs.Section.{settleSectionSize}
 use Rattle.section.proofs.settle.settle_section_size.Statement.{statement}
 use Rattle.section.proofs.settle.settle_section_size.Tie as tie
 
