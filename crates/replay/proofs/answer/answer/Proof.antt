@@ -42,7 +42,8 @@ returns-3 c =
     let d = c .before .before in
     let n = ne-eqb _ _ (d .before .before .before .if1 .left) in
     let m = ne-eqb _ _ (d .before .before .if2 .left) in
-    (rw (n, m, d .if3 .taken, eq-eqb _ _ (c .before .if4 .taken)) (c .go-on .ensures .0), rw (n, m, d .if3 .taken, eq-eqb _ _ (c .before .if4 .taken)) (c .go-on .ensures .1))
+    let f = eq-eqb _ _ (c .before .if4 .taken) in
+    (rw (n, m, d .if3 .taken, f) (c .go-on .ensures .0), rw (n, m, d .if3 .taken, f) (c .go-on .ensures .1))
 
 ask-requires : tie.Need-ask-requires
 ask-requires c κs = search needs
