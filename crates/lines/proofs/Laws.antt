@@ -1,10 +1,10 @@
 -- Laws of decimal text and of lines: the fewest digits are the text, and a line grows by one number.
 use Prim.Native.Nat.{ℕ, zero, suc, _+_, _*_, _-_, _/_, _%_, _^_, _≤_, _<_}
-use mathlib.Core.Path.{_≡_, refl, sym, ap, ap₂, _∙_}
+use mathlib.Core.Path.{_≡_, refl, sym, ap, _∙_}
 use mathlib.Core.List.{List, [], _∷_, _++_, append-assoc, append-nil}
 use mathlib.Core.Logic.{_⊎_, inl, inr}
 use lib.ListN.{length, set, take, drop, getD, length-append, length-take}
-use lib.Seq.{take-suc, take-all, take-at, take-suc-set, sets, sets-eq, length-take-le}
+use lib.Seq.{take-suc, take-all, take-at, take-suc-set, sets, sets-eq}
 use mathlib.Core.Bool.{Bool, true, false}
 use lib.Dec.{ltb, leb}
 use native.Mathlib.Nat.{pow-succ', pow-le-pow-right, mod-eq-of-lt, mod-lt, one-le-pow}

@@ -17,7 +17,6 @@ use Rattle.streaming.specs.declared.Ended.{Ended}
 use Rattle.streaming.specs.declared.Ended.the-variants as ended
 use Rattle.streaming.specs.declared.Start.{Start}
 use Rattle.streaming.specs.declared.Start.the-variants as start
-use Rattle.streaming.specs.declared.Started.{Started}
 use Rattle.streaming.specs.declared.Fed.{Fed}
 use Rattle.streaming.specs.declared.FlatWalker.{FlatWalker}
 use Rattle.lines.specs.Line.{lineOf, refusalLine}

@@ -1,5 +1,5 @@
 -- What the bytes behind `H` and `W` say: a header, and a state with no failure held. Numbers have their lowest byte first.
-use Prim.Native.Nat.{ℕ, _+_, _*_}
+use Prim.Native.Nat.{ℕ, _+_}
 use mathlib.Core.List.{List, [], _∷_}
 use lib.ListN.{take, drop, getD}
 use lib.Dec.{eqb}

@@ -1,7 +1,7 @@
 // Operations: what each answers, and the walk that is in hand after it.
 ghost use mathlib.Core.Path.{_≡_};
 ghost use mathlib.Core.List.{[]};
-ghost use mathlib.Core.Bool.{true};
+ghost use mathlib.Core.Bool.{true, false};
 ghost use Prim.Native.Nat.{_+_, _≤_, _<_};
 ghost use lib.ListN.{length};
 ghost use Rattle.lines.specs.Line.{lineOf, textOf};
@@ -30,7 +30,9 @@ pub struct Answered {
 }
 
 // No walk in hand; the state is not to be used.
-pub fn empty_hand() -> Hand {
+pub fn empty_hand() -> Hand
+    ensures { λ r. ⌜ r .held ≡ false ⌝ }
+{
     let zeros = [0u8; 157];
     Hand {
         held: false,

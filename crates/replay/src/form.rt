@@ -1,6 +1,6 @@
 // The form of the input: how long each operation is, and whether the input is operations and nothing else.
 ghost use mathlib.Core.Path.{_≡_};
-ghost use Prim.Native.Nat.{_≤_, _<_};
+ghost use Prim.Native.Nat.{_≤_};
 ghost use lib.ListN.{length};
 ghost use Rattle.replay.specs.Form.{isBare, stateSize, feedSize, sizeOf, isWhole};
 

@@ -1,6 +1,6 @@
 // What the bytes behind `H` and `W` say: a header, and a state. Each place is counted from the operation's letter.
 ghost use mathlib.Core.Path.{_≡_};
-ghost use Prim.Native.Nat.{_+_, _≤_, _<_, _^_};
+ghost use Prim.Native.Nat.{_+_, _≤_};
 ghost use lib.ListN.{length};
 ghost use Rattle.replay.specs.Parse.{bytesAt, numberAt, locatorAt, headerIn, stageIn, cursorIn, stateIn};
 use octets::copy_in;

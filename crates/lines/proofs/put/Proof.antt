@@ -54,7 +54,8 @@ loop-again c =
       omega (arith, p .ensures .1),
       p .kept .0 ∙ l .inv .4,
       omega (arith, p .kept .0),
-      line-next (a .line .numbers) (take 1 (set (a .out .now) 0 (a .line .letter))) (l .out) (p .last .0) (l .at) (p .result) (l .i) (omega arith) (l .inv .6) (p .ensures .0),
+      line-next (a .line .numbers) (take 1 (set (a .out .now) 0 (a .line .letter))) (l .out) (p .last .0) (l .at) (p .result) (l .i)
+          (omega arith) (l .inv .6) (p .ensures .0),
     )
 
 slice-write-out-2 : tie.Need-slice-write-out-2 Inv-loop μ-loop
@@ -77,7 +78,8 @@ returns c =
     let t : take (l .i) n ≡ take (a .args .line .count) n = all-taken n (l .i) (a .args .line .count) (l .inv .1)
     (⊎-elim (λ w. inl (omega arith)) (λ w. inr (omega arith)) (c .loop-test .came)) in (
       (k, sym (length-take-le _ _ k)),
-      line-end n (a .args .out .now) (l .out) (a .args .line .letter) (l .at) (l .i) (a .args .line .count) (omega (arith, a .pre)) (omega (arith, a .pre)) t (l .inv .6),
+      line-end n (a .args .out .now) (l .out) (a .args .line .letter) (l .at) (l .i) (a .args .line .count)
+          (omega (arith, a .pre)) (omega (arith, a .pre)) t (l .inv .6),
     )
 
 pub put-spec : {M : Type 1} → statement M

@@ -32,34 +32,40 @@ returns-2 c = (
 )
 
 go-on-requires : tie.Need-go-on-requires
-go-on-requires c κs = has-piece (c .before .before .before .before .before .before .before .args .s .now) (c .before .before .before .before .before .before .before .pre) (c .if4 .taken)
+go-on-requires c κs =
+    let a = c .before .before .before .before .before .before .before in
+    has-piece (a .args .s .now) (a .pre) (c .if4 .taken)
 
 returns-3 : tie.Need-returns-3
 unfolding answerLine handAfter if_then_else_
-returns-3 c = (
-  rw (ne-eqb _ _ (c .before .before .before .before .before .if1 .left), ne-eqb _ _ (c .before .before .before .before .if2 .left), c .before .before .if3 .taken, eq-eqb _ _ (c .before .if4 .taken)) (c .go-on .ensures .0),
-  rw (ne-eqb _ _ (c .before .before .before .before .before .if1 .left), ne-eqb _ _ (c .before .before .before .before .if2 .left), c .before .before .if3 .taken, eq-eqb _ _ (c .before .if4 .taken)) (c .go-on .ensures .1),
-)
+returns-3 c =
+    let d = c .before .before in
+    let n = ne-eqb _ _ (d .before .before .before .if1 .left) in
+    let m = ne-eqb _ _ (d .before .before .if2 .left) in
+    let f = eq-eqb _ _ (c .before .if4 .taken) in
+    (rw (n, m, d .if3 .taken, f) (c .go-on .ensures .0), rw (n, m, d .if3 .taken, f) (c .go-on .ensures .1))
 
 ask-requires : tie.Need-ask-requires
 ask-requires c κs = search needs
 
 returns-4 : tie.Need-returns-4
 unfolding answerLine handAfter if_then_else_
-returns-4 c = (
-  rw (ne-eqb _ _ (c .before .before .before .before .before .if1 .left), ne-eqb _ _ (c .before .before .before .before .if2 .left), c .before .before .if3 .taken, ne-eqb _ _ (c .before .if4 .left)) (c .ask .ensures),
-  rw (ne-eqb _ _ (c .before .before .before .before .before .if1 .left), ne-eqb _ _ (c .before .before .before .before .if2 .left), c .before .before .if3 .taken, ne-eqb _ _ (c .before .if4 .left)) refl,
-)
+returns-4 c =
+    let d = c .before .before in
+    let n = ne-eqb _ _ (d .before .before .before .if1 .left) in
+    let m = ne-eqb _ _ (d .before .before .if2 .left) in
+    (rw (n, m, d .if3 .taken, ne-eqb _ _ (c .before .if4 .left)) (c .ask .ensures), rw (n, m, d .if3 .taken, ne-eqb _ _ (c .before .if4 .left)) refl)
 
 bare-requires : tie.Need-bare-requires
 bare-requires c κs = search needs
 
 returns-5 : tie.Need-returns-5
 unfolding answerLine handAfter if_then_else_
-returns-5 c = (
-  rw (ne-eqb _ _ (c .before .before .before .before .if1 .left), ne-eqb _ _ (c .before .before .before .if2 .left), c .before .if3 .left) (c .bare .ensures),
-  rw (ne-eqb _ _ (c .before .before .before .before .if1 .left), ne-eqb _ _ (c .before .before .before .if2 .left), c .before .if3 .left) refl,
-)
+returns-5 c =
+    let d = c .before in
+    let n = ne-eqb _ _ (d .before .before .before .if1 .left) in
+    let m = ne-eqb _ _ (d .before .before .if2 .left) in
+    (rw (n, m, d .if3 .left) (c .bare .ensures), rw (n, m, d .if3 .left) refl)
 
 pub answer-spec : {M : Type 1} → statement M
 answer-spec =

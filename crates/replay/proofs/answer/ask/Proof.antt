@@ -25,7 +25,9 @@ ended-requires c κs = search needs
 
 returns-2 : tie.Need-returns-2
 unfolding askLine if_then_else_
-returns-2 c = rw (ne-eqb _ _ (c .before .before .before .if1 .left), eq-eqb _ _ (c .before .before .if2 .taken)) (c .ended .ensures ∙ ap endedLine (c .before .end-of-input .ensures))
+returns-2 c =
+    rw (ne-eqb _ _ (c .before .before .before .if1 .left), eq-eqb _ _ (c .before .before .if2 .taken))
+    (c .ended .ensures ∙ ap endedLine (c .before .end-of-input .ensures))
 
 consistent-requires : tie.Need-consistent-requires
 consistent-requires c κs = search needs
@@ -35,7 +37,9 @@ yes-requires c κs = search needs
 
 returns-3 : tie.Need-returns-3
 unfolding askLine if_then_else_
-returns-3 c = rw (ne-eqb _ _ (c .before .before .before .before .if1 .left), ne-eqb _ _ (c .before .before .before .if2 .left), eq-eqb _ _ (c .before .before .if3 .taken))
+returns-3 c =
+    let d = c .before .before in
+    rw (ne-eqb _ _ (d .before .before .if1 .left), ne-eqb _ _ (d .before .if2 .left), eq-eqb _ _ (d .if3 .taken))
     (c .yes .ensures ∙ ap yesLine (c .before .consistent .ensures))
 
 fit-requires : tie.Need-fit-requires
@@ -46,7 +50,9 @@ yes-requires-2 c κs = search needs
 
 returns-4 : tie.Need-returns-4
 unfolding askLine if_then_else_
-returns-4 c = rw (ne-eqb _ _ (c .before .before .before .before .if1 .left), ne-eqb _ _ (c .before .before .before .if2 .left), ne-eqb _ _ (c .before .before .if3 .left))
+returns-4 c =
+    let d = c .before .before in
+    rw (ne-eqb _ _ (d .before .before .if1 .left), ne-eqb _ _ (d .before .if2 .left), ne-eqb _ _ (d .if3 .left))
     (c .yes2 .ensures ∙ ap yesLine (c .before .fit .ensures))
 
 pub ask-spec : {M : Type 1} → statement M

@@ -1,7 +1,7 @@
 -- `feed_size` meets its contract.
 use borrow.Author.Needs.{needs}
 use native.Mathlib.Omega.{arith}
-use borrow.Author.Tests.{lt-ltb, le-ltb, le-leb, eq-eqb, ne-eqb}
+use borrow.Author.Tests.{lt-ltb, le-ltb}
 use Rattle.streaming.specs.Choose.{if_then_else_}
 use Rattle.replay.specs.Form.{feedSize}
 use Rattle.replay.proofs.form.feed_size.Statement.{statement}

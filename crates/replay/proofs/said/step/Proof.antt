@@ -52,7 +52,9 @@ returns : tie.Need-returns
 returns c = told stepLine _ _ _ (c .before .enum-told .given .1) (c .bare .ensures)
 
 returns-2 : tie.Need-returns-2
-returns-2 c = told stepLine _ _ _ (c .before .before .before .s .given .1) (c .with-one .ensures ∙ ap (λ (n : ℕ). lineOf 80 (n ∷ [])) (c .before .number .ensures))
+returns-2 c =
+    let e = c .with-one .ensures ∙ ap (λ (n : ℕ). lineOf 80 (n ∷ [])) (c .before .number .ensures) in
+    told stepLine _ _ _ (c .before .before .before .s .given .1) e
 
 returns-3 : tie.Need-returns-3
 returns-3 c = told stepLine _ _ _ (c .before .before .s2 .given .1) (c .section .ensures)
