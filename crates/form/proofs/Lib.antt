@@ -1,0 +1,5 @@
+pub mod Sections
+pub mod Zeros
+pub mod Checked
+pub mod Filled
+pub mod Reading

@@ -1,0 +1,77 @@
+-- `sizes` meets its contract.
+use Prim.Native.Nat.{_-_, _≤_}
+use mathlib.Core.Path.{_≡_, refl, sym, ap, _∙_}
+use lib.ListN.{length, replicate}
+use lib.Seq.{sets}
+use native.Mathlib.Omega.{arith}
+use borrow.Author.Needs.{needs}
+use Rattle.form.specs.Form.{firstCuts}
+use Rattle.form.proofs.Filled.{cuts-next}
+use Rattle.form.proofs.sizes.Statement.{statement}
+use Rattle.form.proofs.sizes.Tie as tie
+
+abbrev Inv-loop : tie.InvT-loop
+Inv-loop s at n r₀ i₀ r i = (i ≤ n) × (r ≡ sets (replicate 64 0) 0 (firstCuts s at i))
+
+abbrev μ-loop : tie.MeasureT-loop
+μ-loop s at n r₀ i₀ r i = n - i
+
+loop-holds : tie.Need-loop-holds Inv-loop μ-loop
+unfolding firstCuts
+loop-holds c = (omega arith, refl)
+
+mul-number-at : tie.Need-mul-number-at Inv-loop μ-loop
+mul-number-at c = search needs
+
+add-number-at : tie.Need-add-number-at Inv-loop μ-loop
+add-number-at c = search needs
+
+number-at-requires : tie.Need-number-at-requires Inv-loop μ-loop
+number-at-requires c κs = search needs
+
+cast-r : tie.Need-cast-r Inv-loop μ-loop
+cast-r c = search needs
+
+mul-r : tie.Need-mul-r Inv-loop μ-loop
+mul-r c = search needs
+
+array-write-r : tie.Need-array-write-r Inv-loop μ-loop
+array-write-r c = search needs
+
+add-i : tie.Need-add-i Inv-loop μ-loop
+add-i c = search needs
+
+loop-less : tie.Need-loop-less Inv-loop μ-loop
+loop-less c = search needs
+
+loop-again : tie.Need-loop-again Inv-loop μ-loop
+loop-again c =
+    let l = c .before .before .loop in
+    let a = c .before .before .before .before .args in
+    (omega arith,
+    rw (l .inv .1, c .number-at .ensures .0) (cuts-next (a .s .now) (a .at) (replicate 64 0) (l .i)))
+
+returns : tie.Need-returns Inv-loop μ-loop
+returns c =
+    let l = c .before .loop in
+    let a = c .before .before .before .args in
+    let e : l .i ≡ a .n = omega arith in
+    l .inv .1 ∙ rw e
+
+pub sizes-spec : {M : Type 1} → statement M
+sizes-spec =
+    tie.close
+    (tie.spec
+    Inv-loop
+    μ-loop
+    loop-holds
+    mul-number-at
+    add-number-at
+    number-at-requires
+    cast-r
+    mul-r
+    array-write-r
+    add-i
+    loop-less
+    loop-again
+    returns)
