@@ -3,3 +3,4 @@ pub mod Zeros
 pub mod Checked
 pub mod Filled
 pub mod Reading
+pub mod Given
