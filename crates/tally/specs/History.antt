@@ -1,5 +1,6 @@
 -- What was heard of a walk, call by call, and what there is to count in it: plain sums over the list.
 use Prim.Native.Nat.{ℕ, _+_}
+use mathlib.Core.Bool.{Bool, true, false}
 use mathlib.Core.List.{List, [], _∷_, _++_}
 use lib.Dec.{eqb}
 use Rattle.streaming.specs.Choose.{if_then_else_}
@@ -56,6 +57,11 @@ refusalTakes held error.BadState = notTaken
 abbrev pub takenAs : Failure → Answer → Taken
 takenAs held (answer.Step s) = stepTakes s
 takenAs held (answer.Refused e) = refusalTakes held e
+
+abbrev pub isAccepted : Taken → Bool
+isAccepted notTaken = false
+isAccepted asFraming = true
+isAccepted asPayload = true
 
 -- ---- bytes of one call
 
