@@ -4,7 +4,9 @@ use mathlib.Core.List.{List, [], _∷_, _++_}
 use lib.ListN.{take}
 use lib.Dec.{ltb}
 use Rattle.streaming.specs.Choose.{if_then_else_}
-use Rattle.streaming.specs.Numbers.{numberOf, fieldsOf, faultNumber, faultFields}
+use Rattle.streaming.specs.Numbers.{partNumber, numberOf, fieldsOf, faultNumber, faultFields}
+use Rattle.streaming.specs.declared.SectionRecord.{SectionRecord}
+use Rattle.streaming.specs.declared.ObjectRecord.{ObjectRecord}
 use Rattle.streaming.specs.declared.Fault.{Fault}
 use Rattle.streaming.specs.declared.StreamError.{StreamError}
 use Rattle.lines.specs.declared.Line.{Line}
@@ -30,6 +32,13 @@ lineOf letter numbers = letter ∷ spaced numbers ++ (10 ∷ [])
 -- the text of a line
 abbrev pub textOf : Line → List ℕ
 textOf l = lineOf (l .letter) (take (l .count) (l .numbers))
+
+-- the line of a section, `S` part data_offset size, and of an object, `O` handle offset size type
+abbrev pub sectionLine : SectionRecord → List ℕ
+sectionLine r = lineOf 83 (partNumber (r .part) ∷ r .«data_offset» ∷ r .size ∷ [])
+
+abbrev pub objectLine : ObjectRecord → List ℕ
+objectLine r = lineOf 79 (r .handle ∷ r .offset ∷ r .size ∷ r .«type_code» ∷ [])
 
 -- the line of a refusal: `X`, whose code is 88, its number and its values
 abbrev pub faultLine : Fault → List ℕ

@@ -1,6 +1,11 @@
 // Lines of output: a letter and numbers, decimal, each after one space, and a newline at the end.
+mod records;
 mod refusals;
 
+pub use records::object;
+pub use records::part_number;
+pub use records::section;
+pub use refusals::number;
 pub use refusals::refusal;
 ghost use Prim.Native.Nat.{_+_, _<_, _≤_};
 ghost use mathlib.Core.Path.{_≡_};

@@ -1,5 +1,6 @@
 // The line of a refusal: `X`, its number and its values, in document 01's order.
 ghost use mathlib.Core.Path.{_≡_};
+ghost use Rattle.streaming.specs.Numbers.{faultNumber, numberOf};
 ghost use Rattle.lines.specs.Line.{faultLine, refusalLine, textOf};
 use crate::Line;
 use crate::with_four;
@@ -8,6 +9,41 @@ use crate::with_three;
 use crate::with_two;
 use streaming::Fault;
 use streaming::StreamError;
+
+fn fault_number(f: Fault) -> u64
+    ensures { λ r. ⌜ r ≡ faultNumber f ⌝ }
+{
+    match f {
+        Fault::SectionSize(_) => 7,
+        Fault::SectionSentinel(_) => 8,
+        Fault::SectionCrc { .. } => 9,
+        Fault::MapChunk(_) => 10,
+        Fault::MapCrc { .. } => 11,
+        Fault::MapEntry(_) => 12,
+        Fault::ObjectRange { .. } => 13,
+        Fault::ObjectSize(_) => 14,
+        Fault::ObjectCrc { .. } => 15,
+        Fault::ObjectHeader(_) => 16,
+        Fault::ObjectHandle { .. } => 17,
+    }
+}
+
+// Document 01's number of a refusal, without its values.
+pub fn number(e: StreamError) -> u64
+    ensures { λ r. ⌜ r ≡ numberOf e ⌝ }
+{
+    match e {
+        StreamError::LocatorCount(_) => 1,
+        StreamError::LocatorRange(_) => 2,
+        StreamError::Finished => 3,
+        StreamError::WrongOffset { .. } => 4,
+        StreamError::InvalidFeed { .. } => 5,
+        StreamError::Truncated { .. } => 6,
+        StreamError::Fault(f) => fault_number(f),
+        StreamError::NoRoom(_) => 18,
+        StreamError::BadState => 19,
+    }
+}
 
 fn fault(f: Fault) -> Line
     ensures { λ r. ⌜ textOf r ≡ faultLine f ⌝ }

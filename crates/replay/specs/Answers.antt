@@ -6,7 +6,6 @@ use lib.ListN.{getD}
 use lib.Dec.{eqb}
 use Rattle.streaming.specs.Choose.{if_then_else_}
 use Rattle.streaming.specs.Numbers.{partNumber}
-use Rattle.streaming.specs.declared.SectionRecord.{SectionRecord}
 use Rattle.streaming.specs.declared.Step.{Step}
 use Rattle.streaming.specs.declared.Step.the-variants as step
 use Rattle.streaming.specs.declared.Answer.{Answer}
@@ -19,7 +18,7 @@ use Rattle.streaming.specs.declared.Start.{Start}
 use Rattle.streaming.specs.declared.Start.the-variants as start
 use Rattle.streaming.specs.declared.Fed.{Fed}
 use Rattle.streaming.specs.declared.FlatWalker.{FlatWalker}
-use Rattle.lines.specs.Line.{lineOf, refusalLine}
+use Rattle.lines.specs.Line.{lineOf, sectionLine, objectLine, refusalLine}
 use Rattle.flat.specs.Fit.{fitOf, consistentOf}
 use Rattle.flat.specs.Flat.{startOf, requestOf, endOf, feedOf}
 use Rattle.replay.specs.Parse.{bytesAt, numberAt, headerIn, stateIn}
@@ -27,16 +26,12 @@ use Rattle.replay.specs.declared.answer.Hand.{Hand}
 
 -- ---- lines
 
--- `S part data_offset size`
-abbrev pub sectionLine : SectionRecord → List ℕ
-sectionLine r = lineOf 83 (partNumber (r .part) ∷ r .«data_offset» ∷ r .size ∷ [])
-
--- `F`, `P part`, a section, `O handle offset size type`, `Z`
+-- `F`, `P part`, a section, an object, `Z`
 abbrev pub stepLine : Step → List ℕ
 stepLine step.Framing = lineOf 70 []
 stepLine (step.Payload part) = lineOf 80 (partNumber part ∷ [])
 stepLine (step.Section r) = sectionLine r
-stepLine (step.Object r) = lineOf 79 (r .handle ∷ r .offset ∷ r .size ∷ r .«type_code» ∷ [])
+stepLine (step.Object r) = objectLine r
 stepLine step.Finished = lineOf 90 []
 
 abbrev pub fedLine : Answer → List ℕ

@@ -1,48 +1,29 @@
 // The line of each answer of the walk.
 ghost use mathlib.Core.Path.{_≡_};
-ghost use Rattle.streaming.specs.Numbers.{partNumber};
 ghost use Rattle.lines.specs.Line.{textOf};
-ghost use Rattle.replay.specs.Answers.{sectionLine, stepLine, fedLine, askedLine, endedLine, startLine, yesLine};
+ghost use Rattle.replay.specs.Answers.{stepLine, fedLine, askedLine, endedLine, startLine, yesLine};
 use lines::Line;
 use lines::bare;
+use lines::object;
+use lines::part_number;
 use lines::refusal;
-use lines::with_four;
+use lines::section;
 use lines::with_one;
-use lines::with_three;
 use lines::with_two;
 use streaming::Answer;
 use streaming::Asked;
 use streaming::Ended;
-use streaming::Part;
-use streaming::SectionRecord;
 use streaming::Start;
 use streaming::Step;
-
-fn number(part: Part) -> u64
-    ensures { λ r. ⌜ r ≡ partNumber part ⌝ }
-{
-    match part {
-        Part::HeaderVars => 0,
-        Part::Classes => 1,
-        Part::Object => 2,
-    }
-}
-
-fn section(r: SectionRecord) -> Line
-    ensures { λ l. ⌜ textOf l ≡ sectionLine r ⌝ }
-{
-    let part = r.part;
-    with_three(b'S', number(part), r.data_offset, r.size as u64)
-}
 
 fn step(s: Step) -> Line
     ensures { λ r. ⌜ textOf r ≡ stepLine s ⌝ }
 {
     match s {
         Step::Framing => bare(b'F'),
-        Step::Payload(part) => with_one(b'P', number(part)),
+        Step::Payload(part) => with_one(b'P', part_number(part)),
         Step::Section(r) => section(r),
-        Step::Object(r) => with_four(b'O', r.handle, r.offset, r.size as u64, r.type_code as u64),
+        Step::Object(r) => object(r),
         Step::Finished => bare(b'Z'),
     }
 }

@@ -18,8 +18,8 @@ bare-requires c κs = search needs
 enum-known-s : tie.Need-enum-known-s
 enum-known-s c = search needs
 
-number-requires : tie.Need-number-requires
-number-requires c κs = search needs
+part-number-requires : tie.Need-part-number-requires
+part-number-requires c κs = search needs
 
 with-one-requires : tie.Need-with-one-requires
 with-one-requires c κs = search needs
@@ -33,14 +33,8 @@ section-requires c κs = search needs
 enum-known-s-3 : tie.Need-enum-known-s-3
 enum-known-s-3 c = search needs
 
-cast-with-four : tie.Need-cast-with-four
-cast-with-four c = search needs
-
-cast-with-four-2 : tie.Need-cast-with-four-2
-cast-with-four-2 c = search needs
-
-with-four-requires : tie.Need-with-four-requires
-with-four-requires c κs = search needs
+object-requires : tie.Need-object-requires
+object-requires c κs = search needs
 
 enum-told-2 : tie.Need-enum-told-2
 enum-told-2 c = search needs
@@ -53,14 +47,14 @@ returns c = told stepLine _ _ _ (c .before .enum-told .given .1) (c .bare .ensur
 
 returns-2 : tie.Need-returns-2
 returns-2 c =
-    let e = c .with-one .ensures ∙ ap (λ (n : ℕ). lineOf 80 (n ∷ [])) (c .before .number .ensures) in
+    let e = c .with-one .ensures ∙ ap (λ (n : ℕ). lineOf 80 (n ∷ [])) (c .before .part-number .ensures) in
     told stepLine _ _ _ (c .before .before .before .s .given .1) e
 
 returns-3 : tie.Need-returns-3
 returns-3 c = told stepLine _ _ _ (c .before .before .s2 .given .1) (c .section .ensures)
 
 returns-4 : tie.Need-returns-4
-returns-4 c = told stepLine _ _ _ (c .before .before .before .before .s3 .given .1) (c .with-four .ensures)
+returns-4 c = told stepLine _ _ _ (c .before .before .s3 .given .1) (c .object .ensures)
 
 returns-5 : tie.Need-returns-5
 returns-5 c = told stepLine _ _ _ (c .before .enum-told2 .given .1) (c .bare2 .ensures)
@@ -72,14 +66,12 @@ step-spec =
     enum-told
     bare-requires
     enum-known-s
-    number-requires
+    part-number-requires
     with-one-requires
     enum-known-s-2
     section-requires
     enum-known-s-3
-    cast-with-four
-    cast-with-four-2
-    with-four-requires
+    object-requires
     enum-told-2
     bare-requires-2
     returns
