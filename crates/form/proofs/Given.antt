@@ -9,21 +9,10 @@ use lib.Dec.{ltb}
 use native.Mathlib.Omega.{arith}
 use borrow.Author.Tests.{ltb-true, ltb-false}
 use Rattle.streaming.specs.Choose.{if_then_else_}
-use Rattle.form.specs.Form.{countAt, cutsAt, sourceAt, cutIn, firstCuts, isForm, headerIn, cutsIn, formIn, noForm, formOf}
-use Rattle.form.specs.declared.Cuts.{Cuts}
-use Rattle.form.specs.declared.Form.{Form}
+use Rattle.form.specs.Form.{countAt, cutsAt, sourceAt, cutIn, firstCuts, isForm, headerIn, cutsIn, formIn, noForm, formOf, Given}
 use Rattle.form.proofs.Zeros.{each-some}
 use Rattle.form.proofs.Filled.{length-firstCuts}
 use Rattle.form.proofs.Reading.{Parts, form-parts}
-
--- the counted cuts have their places, and none is 0
-pub record Cutting (c : Cuts) : Type 0 where
-  pub few : c .count ≤ 64
-  pub some : (i : ℕ) → i < c .count → 0 < getD (c .sizes) i 0
-
-pub record Given (s : List ℕ) (f : Form) : Type 0 where
-  pub source : f .source + f .header .length ≡ length s
-  pub cuts : Cutting (f .cuts)
 
 module _ (s : List ℕ) (at : ℕ) where
   -- the cut of an index, in the list of them

@@ -1,5 +1,5 @@
 -- The driver's input form (document 01, "Driver"): four sections in order, each behind its count of four bytes; and what an input in that form says.
-use Prim.Native.Nat.{ℕ, zero, suc, _+_, _*_, _≤_}
+use Prim.Native.Nat.{ℕ, zero, suc, _+_, _*_, _≤_, _<_}
 use mathlib.Core.Bool.{Bool, true, false, _&&_}
 use mathlib.Core.List.{List, [], _∷_, _++_}
 use mathlib.Core.Path.{_≡_}
@@ -115,3 +115,15 @@ formIn s = record { good = true; header = headerIn s; cuts = cutsIn s; source = 
 
 unfoldable pub formOf : List ℕ → Form
 formOf s = if isForm s then formIn s else noForm
+
+-- ---- what it gives to whoever walks it
+
+-- the counted cuts have their places, and none is 0
+pub record Cutting (c : Cuts) : Type 0 where
+  pub few : c .count ≤ 64
+  pub some : (i : ℕ) → i < c .count → 0 < getD (c .sizes) i 0
+
+-- the source's bytes are the rest of the input
+pub record Given (s : List ℕ) (f : Form) : Type 0 where
+  pub source : f .source + f .header .length ≡ length s
+  pub cuts : Cutting (f .cuts)

@@ -1,0 +1,32 @@
+-- `cut_to` meets its contract.
+use borrow.Author.Needs.{needs}
+use Rattle.streaming.specs.Choose.{if_then_else_}
+use Rattle.streaming.proofs.Cases.{cases}
+use Rattle.driving.specs.Pieces.{cutTo}
+use Rattle.driving.proofs.pieces.cut_to.Statement.{statement}
+use Rattle.driving.proofs.pieces.cut_to.Tie as tie
+
+returns : tie.Need-returns
+unfolding cutTo if_then_else_
+returns c = search cases
+
+mul-least : tie.Need-mul-least
+mul-least c = search needs
+
+element-copy-out-least : tie.Need-element-copy-out-least
+element-copy-out-least c = search needs
+
+cast-least : tie.Need-cast-least
+cast-least c = search needs
+
+least-requires : tie.Need-least-requires
+least-requires c κs = search needs
+
+returns-2 : tie.Need-returns-2
+unfolding cutTo if_then_else_
+returns-2 c = search cases
+
+pub cut-to-spec : {M : Type 1} → statement M
+cut-to-spec =
+    tie.close
+    (tie.spec returns mul-least element-copy-out-least cast-least least-requires returns-2)

@@ -1,0 +1,121 @@
+-- `walk` meets its contract. The invariant: the state in hand is that of a run over this source, whose tally is kept. The measure: the bytes that the
+-- rules still allow.
+use Prim.Native.Nat.{_-_}
+use mathlib.Core.Path.{sym, _∙_}
+use borrow.Author.Needs.{needs}
+use Rattle.driving.specs.Ran.{mostBytes, Ran}
+use Rattle.driving.proofs.Chosen.{Turning, turning-first, turning-after}
+use Rattle.driving.proofs.Runs.{none-yet, ran-whole}
+use Rattle.driving.proofs.Driven.{piece-chosen, all-past, again, less}
+use Rattle.driving.proofs.walk.Statement.{statement}
+use Rattle.driving.proofs.walk.Tie as tie
+
+abbrev Inv-loop : tie.InvT-loop
+Inv-loop source h cuts state₀ tally₀ turn₀ state tally turn = Ran h source state tally × Turning cuts turn
+
+abbrev μ-loop : tie.MeasureT-loop
+μ-loop source h cuts state₀ tally₀ turn₀ state tally turn = mostBytes h - tally .bytes
+
+blank-requires : tie.Need-blank-requires Inv-loop μ-loop
+blank-requires c κs = search needs
+
+loop-holds : tie.Need-loop-holds Inv-loop μ-loop
+loop-holds c =
+    let start = c .before .before in
+    (none-yet (start .args .h) (start .args .source .now) (start .args .begun) (c .blank .result) (start .pre .1) (c .blank .ensures),
+    turning-first (start .args .cuts))
+
+request-requires : tie.Need-request-requires Inv-loop μ-loop
+request-requires c κs = search needs
+
+choose-requires : tie.Need-choose-requires Inv-loop μ-loop
+choose-requires c κs = c .before .loop .inv .1 .below
+
+enum-told : tie.Need-enum-told Inv-loop μ-loop
+enum-told c = search needs
+
+end-of-input-requires : tie.Need-end-of-input-requires Inv-loop μ-loop
+end-of-input-requires c κs = search needs
+
+returns : tie.Need-returns Inv-loop μ-loop
+returns c =
+    let f = c .before .before .before in
+    let l = f .before .before .loop in
+    let start = f .before .before .before .before .before in
+    let a = start .args in
+    let over =
+        all-past (a .h) (a .source .now) (a .cuts) (start .pre .0) (l .state) (l .turn) (l .inv .1) (f .before .request .result) (f .before .request .ensures)
+        (f .choose .result) (f .choose .ensures) (c .before .enum-told .given .1) in
+    ran-whole (a .h) (a .source .now) (a .cuts) (start .pre .0) (l .state) (l .tally) (c .end-of-input .result) (l .inv .0) over (c .end-of-input .ensures)
+
+enum-known-next : tie.Need-enum-known-next Inv-loop μ-loop
+enum-known-next c = search needs
+
+take-requires : tie.Need-take-requires Inv-loop μ-loop
+take-requires c κs =
+    let n = c .before .next .given in
+    let f = c .before .before .before in
+    let l = f .before .before .loop in
+    let start = f .before .before .before .before .before in
+    let a = start .args in
+    piece-chosen (a .h) (a .source .now) (a .cuts) (start .pre .0) (l .state) (l .turn) (l .inv .1) (f .before .request .result) (f .before .request .ensures)
+        (f .choose .result) (f .choose .ensures) (n .0 .0) (n .0 .1 .0) (n .1) .inside
+
+answered-requires : tie.Need-answered-requires Inv-loop μ-loop
+answered-requires c κs = search needs
+
+say-requires : tie.Need-say-requires Inv-loop μ-loop
+say-requires c κs = search needs
+
+turn-after-requires : tie.Need-turn-after-requires Inv-loop μ-loop
+turn-after-requires c κs = c .before .before .before .before .before .before .before .before .before .before .loop .inv .1 .below
+
+loop-less : tie.Need-loop-less Inv-loop μ-loop
+loop-less c =
+    let k = c .before .before .before .before .before in
+    let n = k .before .before .next .given in
+    let f = k .before .before .before .before in
+    let l = f .before .before .loop in
+    let start = f .before .before .before .before .before in
+    let a = start .args in
+    let chosen =
+        piece-chosen (a .h) (a .source .now) (a .cuts) (start .pre .0) (l .state) (l .turn) (l .inv .1) (f .before .request .result) (f .before .request .ensures)
+        (f .choose .result) (f .choose .ensures) (n .0 .0) (n .0 .1 .0) (n .1) in
+    less (a .h) (a .source .now) (a .cuts) (start .pre .0) (l .state) (l .tally) (l .inv .0) (n .0 .0) (n .0 .1 .0) chosen (k .take .result .state)
+        (k .take .result .tally) (k .take .ensures .1 .0) (k .take .ensures .1 .1)
+
+loop-again : tie.Need-loop-again Inv-loop μ-loop
+loop-again c =
+    let k = c .before .before .before .before .before in
+    let n = k .before .before .next .given in
+    let f = k .before .before .before .before in
+    let l = f .before .before .loop in
+    let start = f .before .before .before .before .before in
+    let a = start .args in
+    let chosen =
+        piece-chosen (a .h) (a .source .now) (a .cuts) (start .pre .0) (l .state) (l .turn) (l .inv .1) (f .before .request .result) (f .before .request .ensures)
+        (f .choose .result) (f .choose .ensures) (n .0 .0) (n .0 .1 .0) (n .1) in
+    (again (a .h) (a .source .now) (a .cuts) (start .pre .0) (l .state) (l .tally) (l .inv .0) (n .0 .0) (n .0 .1 .0) chosen (k .take .result .state)
+        (k .take .result .tally) (k .take .ensures .1 .0) (k .take .ensures .1 .1),
+    turning-after (a .cuts) (l .turn) (c .turn-after .result) (start .pre .0 .cutting) (c .turn-after .ensures))
+
+pub walk-spec : {M : Type 1} → statement M
+walk-spec =
+    tie.close
+    (tie.spec
+    Inv-loop
+    μ-loop
+    blank-requires
+    loop-holds
+    request-requires
+    choose-requires
+    enum-told
+    end-of-input-requires
+    returns
+    enum-known-next
+    take-requires
+    answered-requires
+    say-requires
+    turn-after-requires
+    loop-less
+    loop-again)
