@@ -11,6 +11,7 @@ mod form;
 mod heads;
 mod inputs;
 mod replay;
+mod run_list;
 mod selftest;
 
 // The Rust: what the walk does not use stays unused.
@@ -31,6 +32,7 @@ const USAGE: &str = "usage: oracle table | crc | heads | drive | replay
        oracle gen KIND SEED COUNT DIR
        oracle compare KIND SEED COUNT OURS FOLDER
        oracle facts SEED COUNT MAXBYTES
+       oracle run-list whole | stdin | stdout | table
        oracle selftest
 KIND is crc, heads, drive or replay";
 
@@ -93,7 +95,14 @@ fn generate(kind: Kind, seed: u64, count: u64, dir: &str) -> Result<String, Stri
     Ok(String::new())
 }
 
-fn run(arguments: &[&str]) -> Result<String, String> {
+fn run(arguments: &[&str]) -> Result<Vec<u8>, String> {
+    if let ["run-list", part] = *arguments {
+        return run_list::part(part);
+    }
+    text(arguments).map(String::into_bytes)
+}
+
+fn text(arguments: &[&str]) -> Result<String, String> {
     match *arguments {
         ["selftest"] => selftest::selftest(),
         ["table"] => crc_form::table(),
@@ -120,9 +129,9 @@ fn run(arguments: &[&str]) -> Result<String, String> {
 fn main() -> ExitCode {
     let arguments: Vec<String> = std::env::args().skip(1).collect();
     let arguments: Vec<&str> = arguments.iter().map(String::as_str).collect();
-    let printed = run(&arguments).and_then(|text| {
+    let printed = run(&arguments).and_then(|bytes| {
         let mut out = std::io::stdout().lock();
-        let written = out.write_all(text.as_bytes());
+        let written = out.write_all(&bytes);
         written.map_err(|error| error.to_string())
     });
     match printed {

@@ -4,7 +4,7 @@
 
 mod begin;
 mod driver;
-mod sketch;
+pub mod sketch;
 mod states;
 mod table;
 
