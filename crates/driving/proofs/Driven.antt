@@ -102,12 +102,14 @@ not-refused (some x) a e k = absurd (let z : _≡_ {A = ℕ} 0 1 = cc in omega a
 pub walkable : (h : FlatHeader) (src : List ℕ) (cuts : Cuts) (r : Started) → r ≡ startOf h → r .answer ≡ start.Begun
     → length src ≡ h .length → length src ≤ 60000 → Cutting cuts → Walkable h src cuts × (r .state ≡ startOf h .state)
 unfolding startOf
-walkable h src cuts r e begun whole short cutting =
-    (record {
-      of = record { starts = not-refused (startRefusal h) (r .answer) (ap (λ (x : Started). x .answer) e) begun; whole = whole };
-      short = short;
-      cutting = cutting;
-    }, ap (λ (x : Started). x .state) e)
+walkable h src cuts r e begun whole short cutting = (
+  record {
+    of = record { starts = not-refused (startRefusal h) (r .answer) (ap (λ (x : Started). x .answer) e) begun; whole = whole };
+    short = short;
+    cutting = cutting;
+  },
+  ap (λ (x : Started). x .state) e,
+)
 
 -- what an input in the form hands over
 module _ (s : List ℕ) (f : Form) (e : f ≡ formOf s) (good : f .good ≡ true) where

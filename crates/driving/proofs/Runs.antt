@@ -69,9 +69,9 @@ module _ (h : FlatHeader) (src : List ℕ) (s : FlatWalker) (t : Tally) (ran : R
         honest = honest-more flatWalker src c (begun h) cs (ran .honest) (λ _. bytes-of);
         leads = state ∙ ap (λ (x : FlatWalker). feedOf x (c .offset) (c .piece) .state) (ran .leads) ∙ sym (run-more flatWalker src c (begun h) cs);
         counts =
-          counted (heardIn (begun h) cs) (ran .counts)
-          ∙ ap (λ (x : FlatWalker). tallyOf (heardIn (begun h) cs ++ (heardOf x c ∷ []))) (ran .leads)
-          ∙ ap tallyOf (sym (heard-more c (begun h) cs));
+            counted (heardIn (begun h) cs) (ran .counts)
+            ∙ ap (λ (x : FlatWalker). tallyOf (heardIn (begun h) cs ++ (heardOf x c ∷ []))) (ran .leads)
+            ∙ ap tallyOf (sym (heard-more c (begun h) cs));
       }
 
   more-bytes : bytes flatWalker (begun h) (one-more .calls) ≡ bytes flatWalker (begun h) (ran .calls) + length (c .piece)

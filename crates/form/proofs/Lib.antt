@@ -4,3 +4,4 @@ pub mod Checked
 pub mod Filled
 pub mod Reading
 pub mod Given
+pub mod Examples

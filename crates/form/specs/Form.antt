@@ -102,7 +102,9 @@ abbrev pub noForm : Form
 noForm = record {
   good = false;
   header = record {
-    magic = replicate 6 0; count = 0; length = 0;
+    magic = replicate 6 0;
+    count = 0;
+    length = 0;
     locators = blankLocator ∷ blankLocator ∷ blankLocator ∷ blankLocator ∷ blankLocator ∷ blankLocator ∷ [];
   };
   cuts = record { count = 0; sizes = replicate 64 0 };

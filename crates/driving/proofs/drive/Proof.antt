@@ -25,9 +25,11 @@ begin-requires : tie.Need-begin-requires
 begin-requires c κs =
     let r = c .before .before .before .before in
     let s = r .before .before .args .input .now in
-    let good = c .before .before .before .if1 .taken in
-    (source-length s (r .read .result) (r .read .ensures) good, source-short s (r .read .result) (r .read .ensures) good,
-    cuts-given s (r .read .result) (r .read .ensures) good)
+    let good = c .before .before .before .if1 .taken in (
+      source-length s (r .read .result) (r .read .ensures) good,
+      source-short s (r .read .result) (r .read .ensures) good,
+      cuts-given s (r .read .result) (r .read .ensures) good,
+    )
 
 returns : tie.Need-returns
 returns c = search needs

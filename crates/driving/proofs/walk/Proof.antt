@@ -21,9 +21,10 @@ blank-requires c κs = search needs
 
 loop-holds : tie.Need-loop-holds Inv-loop μ-loop
 loop-holds c =
-    let start = c .before .before in
-    (none-yet (start .args .h) (start .args .source .now) (start .args .begun) (c .blank .result) (start .pre .1) (c .blank .ensures),
-    turning-first (start .args .cuts))
+    let start = c .before .before in (
+      none-yet (start .args .h) (start .args .source .now) (start .args .begun) (c .blank .result) (start .pre .1) (c .blank .ensures),
+      turning-first (start .args .cuts),
+    )
 
 request-requires : tie.Need-request-requires Inv-loop μ-loop
 request-requires c κs = search needs
@@ -44,8 +45,8 @@ returns c =
     let start = f .before .before .before .before .before in
     let a = start .args in
     let over =
-        all-past (a .h) (a .source .now) (a .cuts) (start .pre .0) (l .state) (l .turn) (l .inv .1) (f .before .request .result) (f .before .request .ensures)
-        (f .choose .result) (f .choose .ensures) (c .before .enum-told .given .1) in
+    all-past (a .h) (a .source .now) (a .cuts) (start .pre .0) (l .state) (l .turn) (l .inv .1) (f .before .request .result) (f .before .request .ensures)
+    (f .choose .result) (f .choose .ensures) (c .before .enum-told .given .1) in
     ran-whole (a .h) (a .source .now) (a .cuts) (start .pre .0) (l .state) (l .tally) (c .end-of-input .result) (l .inv .0) over (c .end-of-input .ensures)
 
 enum-known-next : tie.Need-enum-known-next Inv-loop μ-loop
@@ -59,7 +60,7 @@ take-requires c κs =
     let start = f .before .before .before .before .before in
     let a = start .args in
     piece-chosen (a .h) (a .source .now) (a .cuts) (start .pre .0) (l .state) (l .turn) (l .inv .1) (f .before .request .result) (f .before .request .ensures)
-        (f .choose .result) (f .choose .ensures) (n .0 .0) (n .0 .1 .0) (n .1) .inside
+    (f .choose .result) (f .choose .ensures) (n .0 .0) (n .0 .1 .0) (n .1) .inside
 
 answered-requires : tie.Need-answered-requires Inv-loop μ-loop
 answered-requires c κs = search needs
@@ -79,10 +80,10 @@ loop-less c =
     let start = f .before .before .before .before .before in
     let a = start .args in
     let chosen =
-        piece-chosen (a .h) (a .source .now) (a .cuts) (start .pre .0) (l .state) (l .turn) (l .inv .1) (f .before .request .result) (f .before .request .ensures)
-        (f .choose .result) (f .choose .ensures) (n .0 .0) (n .0 .1 .0) (n .1) in
+    piece-chosen (a .h) (a .source .now) (a .cuts) (start .pre .0) (l .state) (l .turn) (l .inv .1) (f .before .request .result) (f .before .request .ensures)
+    (f .choose .result) (f .choose .ensures) (n .0 .0) (n .0 .1 .0) (n .1) in
     less (a .h) (a .source .now) (a .cuts) (start .pre .0) (l .state) (l .tally) (l .inv .0) (n .0 .0) (n .0 .1 .0) chosen (k .take .result .state)
-        (k .take .result .tally) (k .take .ensures .1 .0) (k .take .ensures .1 .1)
+    (k .take .result .tally) (k .take .ensures .1 .0) (k .take .ensures .1 .1)
 
 loop-again : tie.Need-loop-again Inv-loop μ-loop
 loop-again c =
@@ -93,11 +94,12 @@ loop-again c =
     let start = f .before .before .before .before .before in
     let a = start .args in
     let chosen =
-        piece-chosen (a .h) (a .source .now) (a .cuts) (start .pre .0) (l .state) (l .turn) (l .inv .1) (f .before .request .result) (f .before .request .ensures)
-        (f .choose .result) (f .choose .ensures) (n .0 .0) (n .0 .1 .0) (n .1) in
-    (again (a .h) (a .source .now) (a .cuts) (start .pre .0) (l .state) (l .tally) (l .inv .0) (n .0 .0) (n .0 .1 .0) chosen (k .take .result .state)
-        (k .take .result .tally) (k .take .ensures .1 .0) (k .take .ensures .1 .1),
-    turning-after (a .cuts) (l .turn) (c .turn-after .result) (start .pre .0 .cutting) (c .turn-after .ensures))
+    piece-chosen (a .h) (a .source .now) (a .cuts) (start .pre .0) (l .state) (l .turn) (l .inv .1) (f .before .request .result) (f .before .request .ensures)
+    (f .choose .result) (f .choose .ensures) (n .0 .0) (n .0 .1 .0) (n .1) in (
+      again (a .h) (a .source .now) (a .cuts) (start .pre .0) (l .state) (l .tally) (l .inv .0) (n .0 .0) (n .0 .1 .0) chosen (k .take .result .state)
+          (k .take .result .tally) (k .take .ensures .1 .0) (k .take .ensures .1 .1),
+      turning-after (a .cuts) (l .turn) (c .turn-after .result) (start .pre .0 .cutting) (c .turn-after .ensures),
+    )
 
 pub walk-spec : {M : Type 1} → statement M
 walk-spec =

@@ -54,9 +54,9 @@ returns c =
     let six = a .before in
     let start = six .before .before .before in
     header-is (start .args .s .now) (six .six .result) (six .before .count-at .result) (c .number-at .result) (start .args .magic) (start .args .source)
-        (a .locator .result) (b .locator2 .result) (l .locator3 .result) (d .locator4 .result) (e .locator5 .result) (f .locator6 .result)
-        (start .pre .1) (start .pre .2) (six .six .ensures) (six .before .count-at .ensures .0) (c .number-at .ensures .0)
-        (a .locator .ensures) (b .locator2 .ensures) (l .locator3 .ensures) (d .locator4 .ensures) (e .locator5 .ensures) (f .locator6 .ensures)
+    (a .locator .result) (b .locator2 .result) (l .locator3 .result) (d .locator4 .result) (e .locator5 .result) (f .locator6 .result)
+    (start .pre .1) (start .pre .2) (six .six .ensures) (six .before .count-at .ensures .0) (c .number-at .ensures .0)
+    (a .locator .ensures) (b .locator2 .ensures) (l .locator3 .ensures) (d .locator4 .ensures) (e .locator5 .ensures) (f .locator6 .ensures)
 
 pub header-spec : {M : Type 1} → statement M
 header-spec =

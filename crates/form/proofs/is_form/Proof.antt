@@ -25,8 +25,8 @@ returns-3 c =
     let k = c .before in
     let d = k .before .before in
     sym
-        (no-magic (d .before .before .before .args .s .now) (d .before .if1 .left) (d .behind .result) (d .behind .ensures .0) (k .before .if2 .left)
-        (k .behind2 .result) (k .behind2 .ensures .0) (c .if3 .taken))
+    (no-magic (d .before .before .before .args .s .now) (d .before .if1 .left) (d .behind .result) (d .behind .ensures .0) (k .before .if2 .left)
+    (k .behind2 .result) (k .behind2 .ensures .0) (c .if3 .taken))
 
 behind-requires-3 : tie.Need-behind-requires-3
 behind-requires-3 c κs = search needs
@@ -37,8 +37,8 @@ returns-4 c =
     let k = n .before .before in
     let d = k .before .before in
     sym
-        (no-cuts (d .before .before .before .args .s .now) (d .before .if1 .left) (d .behind .result) (d .behind .ensures .0) (k .before .if2 .left)
-        (k .behind2 .result) (k .behind2 .ensures .0) (n .before .if3 .left) (n .behind3 .result) (n .behind3 .ensures .0) (c .if4 .taken))
+    (no-cuts (d .before .before .before .args .s .now) (d .before .if1 .left) (d .behind .result) (d .behind .ensures .0) (k .before .if2 .left)
+    (k .behind2 .result) (k .behind2 .ensures .0) (n .before .if3 .left) (n .behind3 .result) (n .behind3 .ensures .0) (c .if4 .taken))
 
 add-none-zero : tie.Need-add-none-zero
 add-none-zero c = search needs
@@ -49,7 +49,7 @@ count-at-requires c κs =
     let k = n .before .before in
     let d = k .before .before in
     cuts-held (d .before .before .before .args .s .now) (d .before .if1 .left) (d .behind .result) (d .behind .ensures .0) (k .before .if2 .left)
-        (k .behind2 .result) (k .behind2 .ensures .0) (n .before .if3 .left) (n .behind3 .result) (n .behind3 .ensures .0) (c .if4 .left) .0
+    (k .behind2 .result) (k .behind2 .ensures .0) (n .before .if3 .left) (n .behind3 .result) (n .behind3 .ensures .0) (c .if4 .left) .0
 
 none-zero-requires : tie.Need-none-zero-requires
 none-zero-requires c κs =
@@ -57,7 +57,7 @@ none-zero-requires c κs =
     let k = n .before .before in
     let d = k .before .before in
     let held = cuts-held (d .before .before .before .args .s .now) (d .before .if1 .left) (d .behind .result) (d .behind .ensures .0) (k .before .if2 .left)
-        (k .behind2 .result) (k .behind2 .ensures .0) (n .before .if3 .left) (n .behind3 .result) (n .behind3 .ensures .0) (c .before .if4 .left) .1 in
+    (k .behind2 .result) (k .behind2 .ensures .0) (n .before .if3 .left) (n .behind3 .result) (n .behind3 .ensures .0) (c .before .if4 .left) .1 in
     rw (c .count-at .ensures .0) held
 
 behind-requires-4 : tie.Need-behind-requires-4
@@ -70,8 +70,8 @@ returns-5 c =
     let k = n .before .before in
     let d = k .before .before in
     to-the-end (d .before .before .before .args .s .now) (d .before .if1 .left) (d .behind .result) (d .behind .ensures .0) (k .before .if2 .left)
-        (k .behind2 .result) (k .behind2 .ensures .0) (n .before .if3 .left) (n .behind3 .result) (n .behind3 .ensures .0) (z .before .before .if4 .left)
-        (rw (z .before .count-at .ensures .0) at (sym (z .none-zero .ensures) ∙ c .before .if5 .taken)) (c .behind4 .result) (c .behind4 .ensures .0)
+    (k .behind2 .result) (k .behind2 .ensures .0) (n .before .if3 .left) (n .behind3 .result) (n .behind3 .ensures .0) (z .before .before .if4 .left)
+    (rw (z .before .count-at .ensures .0) at (sym (z .none-zero .ensures) ∙ c .before .if5 .taken)) (c .behind4 .result) (c .behind4 .ensures .0)
 
 returns-6 : tie.Need-returns-6
 returns-6 c =
@@ -80,9 +80,9 @@ returns-6 c =
     let k = n .before .before in
     let d = k .before .before in
     sym
-        (a-zero (d .before .before .before .args .s .now) (d .before .if1 .left) (d .behind .result) (d .behind .ensures .0) (k .before .if2 .left)
-        (k .behind2 .result) (k .behind2 .ensures .0) (n .before .if3 .left) (n .behind3 .result) (n .behind3 .ensures .0) (z .before .before .if4 .left)
-        (rw (z .before .count-at .ensures .0) at (sym (z .none-zero .ensures) ∙ c .if5 .left)))
+    (a-zero (d .before .before .before .args .s .now) (d .before .if1 .left) (d .behind .result) (d .behind .ensures .0) (k .before .if2 .left)
+    (k .behind2 .result) (k .behind2 .ensures .0) (n .before .if3 .left) (n .behind3 .result) (n .behind3 .ensures .0) (z .before .before .if4 .left)
+    (rw (z .before .count-at .ensures .0) at (sym (z .none-zero .ensures) ∙ c .if5 .left)))
 
 pub is-form-spec : {M : Type 1} → statement M
 is-form-spec =

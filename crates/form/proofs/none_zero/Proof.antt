@@ -41,9 +41,10 @@ loop-less c = search needs
 loop-again : tie.Need-loop-again Inv-loop μ-loop
 loop-again c =
     let l = c .before .before .before .loop in
-    let a = c .before .before .before .before .before .args in
-    (omega arith,
-    l .inv .1 ∙ some-cut (a .s .now) (a .at) (l .i) (omega arith) (λ z. c .if1 .left (c .before .number-at .ensures .0 ∙ z)))
+    let a = c .before .before .before .before .before .args in (
+      omega arith,
+      l .inv .1 ∙ some-cut (a .s .now) (a .at) (l .i) (omega arith) (λ z. c .if1 .left (c .before .number-at .ensures .0 ∙ z)),
+    )
 
 returns-2 : tie.Need-returns-2 Inv-loop μ-loop
 unfolding noneZero

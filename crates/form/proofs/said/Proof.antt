@@ -53,7 +53,7 @@ returns c =
     let k = c .before .before in
     let start = k .before .before .before in
     form-is (start .args .s .now) (start .pre) (k .before .count-at .result) (k .count-at2 .result) (k .before .count-at .ensures .0) (k .count-at2 .ensures .0)
-        (c .before .header .result) (c .sizes .result) (c .before .header .ensures) (c .sizes .ensures)
+    (c .before .header .result) (c .sizes .result) (c .before .header .ensures) (c .sizes .ensures)
 
 pub said-spec : {M : Type 1} → statement M
 said-spec =

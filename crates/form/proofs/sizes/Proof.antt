@@ -47,9 +47,10 @@ loop-less c = search needs
 loop-again : tie.Need-loop-again Inv-loop μ-loop
 loop-again c =
     let l = c .before .before .loop in
-    let a = c .before .before .before .before .args in
-    (omega arith,
-    rw (l .inv .1, c .number-at .ensures .0) (cuts-next (a .s .now) (a .at) (replicate 64 0) (l .i)))
+    let a = c .before .before .before .before .args in (
+      omega arith,
+      rw (l .inv .1, c .number-at .ensures .0) (cuts-next (a .s .now) (a .at) (replicate 64 0) (l .i)),
+    )
 
 returns : tie.Need-returns Inv-loop μ-loop
 returns c =

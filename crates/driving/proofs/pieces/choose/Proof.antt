@@ -21,7 +21,7 @@ returns c =
     let d = c .before .before .before .before .before .before in
     let a = d .before .before .args in
     a-piece (a .asked) (d .asked .given .0 .0) (a .bytes) (a .cuts) (a .turn) (d .asked .given .1) (c .before .before .cut-to .result) (c .least .result)
-        (c .before .before .before .if1 .taken) (c .before .before .cut-to .ensures) (c .least .ensures)
+    (c .before .before .before .if1 .taken) (c .before .before .cut-to .ensures) (c .least .ensures)
 
 enum-told : tie.Need-enum-told
 enum-told c = search needs
