@@ -11,12 +11,12 @@ use Rattle.streaming.specs.Choose.{if_then_else_}
 use Rattle.streaming.specs.declared.Request.{Request}
 use Rattle.streaming.specs.declared.Asked.{Asked}
 use Rattle.streaming.specs.declared.Asked.the-variants as asked
-use Rattle.account.specs.Statement.{Call, takes, part}
+use Rattle.account.specs.Statement.{takes, part}
 use Rattle.account.specs.Runs.{Past}
 use Rattle.form.specs.declared.Cuts.{Cuts}
 use Rattle.form.specs.Form.{Cutting}
 use Rattle.driving.specs.Pieces.{cutTo, turnAfter, nextBy}
-use Rattle.driving.specs.declared.pieces.Next.{Next}
+use Rattle.driving.specs.Ran.{pieceAt}
 use Rattle.driving.specs.declared.pieces.Next.the-variants as next
 
 -- ---- turns
@@ -58,9 +58,6 @@ cut-some c turn demand cutting turning some = split (eqb (c .count) 0) refl
         (omega arith, omega arith)
 
 -- ---- the piece
-
-abbrev pub pieceAt : List ℕ → (offset len : ℕ) → Call
-pieceAt src offset len = record { offset = offset; piece = part src offset len }
 
 -- a piece that the walk takes, and that the source has
 pub record Chosen (src : List ℕ) (q : Asked) (offset len : ℕ) : Type 0 where

@@ -3,7 +3,7 @@ use Prim.Native.Nat.{ℕ, _+_, _-_, _≤_, _<_, min}
 use mathlib.Core.Bool.{true}
 use mathlib.Core.List.{List}
 use mathlib.Core.Option.{Option, none, some}
-use mathlib.Core.Path.{_≡_, refl, sym, ap, subst, _∙_}
+use mathlib.Core.Path.{_≡_, refl, sym, ap, ap₂, subst, _∙_}
 use lib.ListN.{length, take, drop, length-drop}
 use lib.Seq.{take-all}
 use native.Mathlib.Omega.{arith}
@@ -35,11 +35,10 @@ use Rattle.tally.specs.declared.Tally.{Tally}
 use Rattle.tally.specs.History.{heard}
 use Rattle.tally.specs.Tally.{Continues}
 use Rattle.driving.specs.Pieces.{cutTo, nextBy}
-use Rattle.driving.specs.Ran.{mostBytes, Ran, Walkable}
+use Rattle.driving.specs.Ran.{Walkable}
 use Rattle.driving.specs.declared.pieces.Next.{Next}
 use Rattle.driving.specs.declared.pieces.Next.the-variants as next
-use Rattle.driving.proofs.Chosen.{Turning, Chosen, chosen, past, pieceAt}
-use Rattle.driving.proofs.Runs.{one-more, nearer}
+use Rattle.driving.proofs.Chosen.{Turning, Chosen, chosen, past}
 
 -- ---- `choose`
 
@@ -66,32 +65,15 @@ counted-part t r s len a b e = subst (λ (x : Answer). Continues t (heard (s .fa
 
 module _ (h : FlatHeader) (src : List ℕ) (cuts : Cuts) (set : Walkable h src cuts) (s : FlatWalker) (turn : ℕ) (turning : Turning cuts turn)
     (q : Asked) (asks : q ≡ requestOf s) (n : Next) (found : n ≡ nextBy q (h .length) cuts turn) where
+  pub next-found : nextBy (requestOf s) (length src) cuts turn ≡ n
+  next-found = ap₂ (λ (k : ℕ) (x : Asked). nextBy x k cuts turn) (set .of .whole) (sym asks) ∙ sym found
+
   pub piece-chosen : (offset len : ℕ) → n ≡ next.Piece offset len → Chosen src (requestOf s) offset len
   piece-chosen offset len e =
-      chosen src cuts turn (set .cutting) turning (requestOf s) (h .length) offset len (λ r d. demand-some s r d) (set .of .whole)
-      (sym e ∙ found ∙ ap (λ (x : Asked). nextBy x (h .length) cuts turn) asks)
+      chosen src cuts turn (set .cutting) turning (requestOf s) (length src) offset len (λ r d. demand-some s r d) refl (sym (next-found ∙ e))
 
   pub all-past : n ≡ next.Over → Past src (requestOf s)
-  all-past e =
-      past src cuts turn (set .cutting) turning (requestOf s) (h .length) (set .of .whole)
-      (sym e ∙ found ∙ ap (λ (x : Asked). nextBy x (h .length) cuts turn) asks)
-
-module _ (h : FlatHeader) (src : List ℕ) (cuts : Cuts) (set : Walkable h src cuts) (s : FlatWalker) (t : Tally) (ran : Ran h src s t)
-    (offset len : ℕ) (c : Chosen src (requestOf s) offset len) (s′ : FlatWalker) (t′ : Tally)
-    (state : s′ ≡ feedOf s offset (part src offset len) .state)
-    (counted : Continues t (heard (s .failure) (feedOf s offset (part src offset len) .answer) len) t′) where
-  same-part : part src offset len ≡ part src offset (length (part src offset len))
-  same-part = ap (part src offset) (sym (c .long))
-
-  counted-whole : Continues t (heard (s .failure) (feedOf s offset (part src offset len) .answer) (length (part src offset len))) t′
-  counted-whole =
-      subst (λ (k : ℕ). Continues t (heard (s .failure) (feedOf s offset (part src offset len) .answer) k) t′) (sym (c .long)) counted
-
-  pub again : Ran h src s′ t′
-  again = one-more h src s t ran (pieceAt src offset len) (c .taken) same-part s′ t′ state counted-whole
-
-  pub less : mostBytes h - t′ .bytes < mostBytes h - t .bytes
-  less = nearer h src cuts set s t ran (pieceAt src offset len) (c .taken) (omega (arith, c .some, c .long)) same-part s′ t′ state counted-whole
+  all-past e = past src cuts turn (set .cutting) turning (requestOf s) (length src) refl (sym (next-found ∙ e))
 
 -- ---- `begin` and `drive`
 

@@ -71,7 +71,7 @@ fn take(source: &[u8], s: FlatWalker, t: Tally, offset: u64, len: u64) -> Taken
 // Walks the source piece by piece, and prints the records as they are committed. The bytes that the rules allow are what ends it.
 fn walk(source: &[u8], h: FlatHeader, cuts: Cuts, begun: FlatWalker) -> Walked
     requires { ⌜ Walkable h (now source) cuts × (begun ≡ startOf h .state) ⌝ }
-    ensures { λ r. ⌜ RanWhole h (now (source .entry)) (r .ending) (r .tally) ⌝ }
+    ensures { λ r. ⌜ RanWhole h (now (source .entry)) cuts (r .ending) (r .tally) ⌝ }
 {
     let mut state = begun;
     let mut tally = tally::blank();

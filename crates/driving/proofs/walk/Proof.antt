@@ -1,17 +1,17 @@
--- `walk` meets its contract. The invariant: the state in hand is that of a run over this source, whose tally is kept. The measure: the bytes that the
--- rules still allow.
+-- `walk` meets its contract. The invariant: the state in hand is that of the driver's calls so far over this source, whose tally is kept. The measure:
+-- the bytes that the rules still allow.
 use Prim.Native.Nat.{_-_}
-use mathlib.Core.Path.{sym, _∙_}
+use mathlib.Core.Path.{_∙_}
 use borrow.Author.Needs.{needs}
 use Rattle.driving.specs.Ran.{mostBytes, Ran}
 use Rattle.driving.proofs.Chosen.{Turning, turning-first, turning-after}
-use Rattle.driving.proofs.Runs.{none-yet, ran-whole}
-use Rattle.driving.proofs.Driven.{piece-chosen, all-past, again, less}
+use Rattle.driving.proofs.Runs.{none-yet, one-more, nearer, ran-whole}
+use Rattle.driving.proofs.Driven.{next-found, piece-chosen, all-past}
 use Rattle.driving.proofs.walk.Statement.{statement}
 use Rattle.driving.proofs.walk.Tie as tie
 
 abbrev Inv-loop : tie.InvT-loop
-Inv-loop source h cuts state₀ tally₀ turn₀ state tally turn = Ran h source state tally × Turning cuts turn
+Inv-loop source h cuts state₀ tally₀ turn₀ state tally turn = Ran h source cuts turn state tally × Turning cuts turn
 
 abbrev μ-loop : tie.MeasureT-loop
 μ-loop source h cuts state₀ tally₀ turn₀ state tally turn = mostBytes h - tally .bytes
@@ -21,10 +21,9 @@ blank-requires c κs = search needs
 
 loop-holds : tie.Need-loop-holds Inv-loop μ-loop
 loop-holds c =
-    let start = c .before .before in (
-      none-yet (start .args .h) (start .args .source .now) (start .args .begun) (c .blank .result) (start .pre .1) (c .blank .ensures),
-      turning-first (start .args .cuts),
-    )
+    let start = c .before .before in
+    let a = start .args in
+    (none-yet (a .h) (a .source .now) (a .cuts) (a .begun) (c .blank .result) (start .pre .1) (c .blank .ensures), turning-first (a .cuts))
 
 request-requires : tie.Need-request-requires Inv-loop μ-loop
 request-requires c κs = search needs
@@ -44,10 +43,13 @@ returns c =
     let l = f .before .before .loop in
     let start = f .before .before .before .before .before in
     let a = start .args in
-    let over =
-    all-past (a .h) (a .source .now) (a .cuts) (start .pre .0) (l .state) (l .turn) (l .inv .1) (f .before .request .result) (f .before .request .ensures)
-    (f .choose .result) (f .choose .ensures) (c .before .enum-told .given .1) in
-    ran-whole (a .h) (a .source .now) (a .cuts) (start .pre .0) (l .state) (l .tally) (c .end-of-input .result) (l .inv .0) over (c .end-of-input .ensures)
+    let e = c .before .enum-told .given .1 in
+    let over = next-found (a .h) (a .source .now) (a .cuts) (start .pre .0) (l .state) (l .turn) (l .inv .1) (f .before .request .result) (f .before .request .ensures)
+    (f .choose .result) (f .choose .ensures) ∙ e in
+    let past = all-past (a .h) (a .source .now) (a .cuts) (start .pre .0) (l .state) (l .turn) (l .inv .1) (f .before .request .result) (f .before .request .ensures)
+    (f .choose .result) (f .choose .ensures) e in
+    ran-whole (a .h) (a .source .now) (a .cuts) (start .pre .0) (l .turn) (l .state) (l .tally) (c .end-of-input .result) (l .inv .0) over past
+    (c .end-of-input .ensures)
 
 enum-known-next : tie.Need-enum-known-next Inv-loop μ-loop
 enum-known-next c = search needs
@@ -79,11 +81,12 @@ loop-less c =
     let l = f .before .before .loop in
     let start = f .before .before .before .before .before in
     let a = start .args in
-    let chosen =
-    piece-chosen (a .h) (a .source .now) (a .cuts) (start .pre .0) (l .state) (l .turn) (l .inv .1) (f .before .request .result) (f .before .request .ensures)
+    let found = next-found (a .h) (a .source .now) (a .cuts) (start .pre .0) (l .state) (l .turn) (l .inv .1) (f .before .request .result) (f .before .request .ensures)
+    (f .choose .result) (f .choose .ensures) ∙ n .1 in
+    let chosen = piece-chosen (a .h) (a .source .now) (a .cuts) (start .pre .0) (l .state) (l .turn) (l .inv .1) (f .before .request .result) (f .before .request .ensures)
     (f .choose .result) (f .choose .ensures) (n .0 .0) (n .0 .1 .0) (n .1) in
-    less (a .h) (a .source .now) (a .cuts) (start .pre .0) (l .state) (l .tally) (l .inv .0) (n .0 .0) (n .0 .1 .0) chosen (k .take .result .state)
-    (k .take .result .tally) (k .take .ensures .1 .0) (k .take .ensures .1 .1)
+    nearer (a .h) (a .source .now) (a .cuts) (start .pre .0) (l .turn) (l .state) (l .tally) (l .inv .0) (n .0 .0) (n .0 .1 .0) found chosen
+    (c .turn-after .result) (k .take .result .state) (k .take .result .tally) (c .turn-after .ensures) (k .take .ensures .1 .0) (k .take .ensures .1 .1)
 
 loop-again : tie.Need-loop-again Inv-loop μ-loop
 loop-again c =
@@ -93,11 +96,12 @@ loop-again c =
     let l = f .before .before .loop in
     let start = f .before .before .before .before .before in
     let a = start .args in
-    let chosen =
-    piece-chosen (a .h) (a .source .now) (a .cuts) (start .pre .0) (l .state) (l .turn) (l .inv .1) (f .before .request .result) (f .before .request .ensures)
+    let found = next-found (a .h) (a .source .now) (a .cuts) (start .pre .0) (l .state) (l .turn) (l .inv .1) (f .before .request .result) (f .before .request .ensures)
+    (f .choose .result) (f .choose .ensures) ∙ n .1 in
+    let chosen = piece-chosen (a .h) (a .source .now) (a .cuts) (start .pre .0) (l .state) (l .turn) (l .inv .1) (f .before .request .result) (f .before .request .ensures)
     (f .choose .result) (f .choose .ensures) (n .0 .0) (n .0 .1 .0) (n .1) in (
-      again (a .h) (a .source .now) (a .cuts) (start .pre .0) (l .state) (l .tally) (l .inv .0) (n .0 .0) (n .0 .1 .0) chosen (k .take .result .state)
-          (k .take .result .tally) (k .take .ensures .1 .0) (k .take .ensures .1 .1),
+      one-more (a .h) (a .source .now) (a .cuts) (start .pre .0) (l .turn) (l .state) (l .tally) (l .inv .0) (n .0 .0) (n .0 .1 .0) found chosen
+          (c .turn-after .result) (k .take .result .state) (k .take .result .tally) (c .turn-after .ensures) (k .take .ensures .1 .0) (k .take .ensures .1 .1),
       turning-after (a .cuts) (l .turn) (c .turn-after .result) (start .pre .0 .cutting) (c .turn-after .ensures),
     )
 
