@@ -11,8 +11,7 @@ use Rattle.streaming.specs.Choose.{if_then_else_}
 use Rattle.streaming.specs.declared.FlatHeader.{FlatHeader}
 use Rattle.streaming.specs.declared.FlatWalker.{FlatWalker}
 use Rattle.streaming.specs.declared.Ended.{Ended}
-use Rattle.account.specs.Account.{endingOf}
-use Rattle.account.specs.Statement.{Call, takes, Walker, HonestCall, Honest, endedBy, part}
+use Rattle.account.specs.Statement.{Call, takes, Walker, HonestCall, Honest, part}
 use Rattle.account.specs.Runs.{run, bytes, Past, Whole}
 use Rattle.rules.specs.Header.{mapSize}
 use Rattle.rules.specs.Rules.{rules}

@@ -1,6 +1,5 @@
 -- Which piece the driver brings next: the least of cut, demand and what the source has.
 use Prim.Native.Nat.{ℕ, _+_, _-_, min}
-use mathlib.Core.List.{List}
 use lib.ListN.{getD}
 use lib.Dec.{eqb, ltb}
 use Rattle.streaming.specs.Choose.{if_then_else_}

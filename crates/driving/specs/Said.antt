@@ -1,6 +1,5 @@
 -- What the driver prints: a line for each record, and the lines of the ending.
 use Prim.Native.Nat.{ℕ}
-use mathlib.Core.Bool.{Bool, true, false}
 use mathlib.Core.List.{List, [], _∷_}
 use Rattle.streaming.specs.Choose.{if_then_else_}
 use Rattle.streaming.specs.Numbers.{numberOf}

@@ -3,13 +3,13 @@ use Prim.Native.Nat.{ℕ, zero, suc, _+_, _≤_, _<_}
 use mathlib.Core.Path.{_≡_, refl, sym, ap, _∙_}
 use mathlib.Core.Bool.{Bool, true, false}
 use mathlib.Core.List.{List, [], _∷_, _++_}
-use lib.ListN.{length, drop, getD, replicate, length-drop, length-replicate, List·getD-append}
+use lib.ListN.{length, drop, getD, replicate, List·getD-append}
 use lib.Seq.{sets, sets-eq, getD-append-seam}
 use lib.Dec.{ltb}
 use native.Mathlib.Omega.{arith}
 use borrow.Author.Tests.{ltb-true, ltb-false}
 use Rattle.streaming.specs.Choose.{if_then_else_}
-use Rattle.form.specs.Form.{countAt, cutsAt, sourceAt, cutIn, firstCuts, isForm, headerIn, cutsIn, formIn, noForm, formOf, Given}
+use Rattle.form.specs.Form.{countAt, cutsAt, cutIn, firstCuts, isForm, headerIn, cutsIn, formIn, noForm, formOf, Given}
 use Rattle.form.proofs.Zeros.{each-some}
 use Rattle.form.proofs.Filled.{length-firstCuts}
 use Rattle.form.proofs.Reading.{Parts, form-parts}

@@ -1,20 +1,14 @@
 -- Laws of `stands`: what refuses a section, what makes one stand, and what it shows.
-use Prim.Native.Nat.{ℕ, _+_, _*_, _≤_, _<_}
+use Prim.Native.Nat.{ℕ, _+_, _≤_, _<_}
 use mathlib.Core.Path.{_≡_, refl}
-use mathlib.Core.Bool.{Bool, true, false, _&&_}
+use mathlib.Core.Bool.{Bool, true, false}
 use mathlib.Core.List.{List}
 use lib.ListN.{length}
-use lib.Dec.{leb}
-use native.Mathlib.Nat.{mul-le-mul-right}
 use native.Mathlib.Omega.{arith}
 use borrow.Author.Tests.{le-leb, lt-leb}
 use Rattle.streaming.specs.Choose.{if_then_else_}
 use Rattle.streaming.proofs.Cases.{shown}
 use Rattle.form.specs.Form.{countAt, behind, stands}
-
--- the items of a section fit where they are few and small
-pub items-fit : (size n : ℕ) → size ≤ 9 → size * n ≤ 9 * n
-items-fit size n h = mul-le-mul-right n h
 
 -- what a section shows that stands
 pub record Standing (s : List ℕ) (at size least most : ℕ) : Type 0 where
@@ -22,10 +16,6 @@ pub record Standing (s : List ℕ) (at size least most : ℕ) : Type 0 where
   pub atLeast : least ≤ countAt s at
   pub atMost : countAt s at ≤ most
   pub held : behind s at size ≤ length s
-
-false-right : (b : Bool) → (b && false) ≡ false
-false-right true = refl
-false-right false = refl
 
 module _ (s : List ℕ) (at size least most : ℕ) where
   pub too-short : length s < at + 4 → stands s at size least most ≡ false

@@ -4,7 +4,7 @@ ghost use Prim.Native.Nat.{_+_, _*_, _<_, _≤_};
 ghost use lib.ListN.{length, take, drop, replicate};
 ghost use lib.Seq.{sets};
 ghost use Rattle.streaming.specs.Choose.{if_then_else_};
-ghost use Rattle.form.specs.Form.{numberAt, countAt, behind as Form·behind, stands, magicAt, cutsAt, sourceAt, noneZero, firstCuts, Held, isForm, locatorIn, headerIn, formIn, noForm, formOf};
+ghost use Rattle.form.specs.Form.{numberAt, countAt, behind as Form·behind, stands, magicAt, sourceAt, noneZero, firstCuts, Held, isForm, locatorIn, headerIn, formIn, noForm, formOf};
 use octets::copy_in;
 use octets::number_at;
 use streaming::FlatHeader;

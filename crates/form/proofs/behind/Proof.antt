@@ -1,8 +1,9 @@
 -- `behind` meets its contract.
+use native.Mathlib.Nat.{mul-le-mul-right}
 use native.Mathlib.Omega.{arith}
 use borrow.Author.Needs.{needs}
 use Rattle.streaming.specs.Choose.{if_then_else_}
-use Rattle.form.proofs.Sections.{items-fit, too-short, too-few, too-many, cut-off, standing}
+use Rattle.form.proofs.Sections.{too-short, too-few, too-many, cut-off, standing}
 use Rattle.form.proofs.behind.Statement.{statement}
 use Rattle.form.proofs.behind.Tie as tie
 
@@ -36,10 +37,10 @@ add-end : tie.Need-add-end
 add-end c = search needs
 
 mul-end : tie.Need-mul-end
-mul-end c = omega (arith, items-fit (c .before .before .before .before .before .args .size) (c .before .before .count-at .result) (omega arith))
+mul-end c = omega (arith, mul-le-mul-right {n = 9} (c .before .before .count-at .result) (c .before .before .before .before .before .pre .2))
 
 add-end-2 : tie.Need-add-end-2
-add-end-2 c = omega (arith, items-fit (c .before .before .before .before .before .args .size) (c .before .before .count-at .result) (omega arith))
+add-end-2 c = omega (arith, mul-le-mul-right {n = 9} (c .before .before .count-at .result) (c .before .before .before .before .before .pre .2))
 
 returns-4 : tie.Need-returns-4
 unfolding if_then_else_

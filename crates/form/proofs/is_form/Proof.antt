@@ -1,6 +1,5 @@
 -- `is_form` meets its contract.
 use mathlib.Core.Path.{sym, _∙_}
-use native.Mathlib.Omega.{arith}
 use borrow.Author.Needs.{needs}
 use Rattle.form.proofs.Checked.{too-long, no-locators, no-magic, no-cuts, cuts-held, a-zero, to-the-end}
 use Rattle.form.proofs.is_form.Statement.{statement}
