@@ -2,3 +2,4 @@ pub mod Laws
 pub mod Kept
 pub mod Acceptance
 pub mod Even
+pub mod Pieces

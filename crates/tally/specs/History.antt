@@ -13,6 +13,7 @@ use Rattle.streaming.specs.declared.Answer.{Answer}
 use Rattle.streaming.specs.declared.Answer.the-variants as answer
 use Rattle.streaming.specs.declared.Failure.{Failure}
 use Rattle.streaming.specs.declared.Failure.the-variants as failure
+use Rattle.rules.specs.Payload.{keptBehind}
 
 -- a call: the failure that was held before it, the answer, and the length of the piece that it brought
 pub record Heard : Type 0 where
@@ -103,6 +104,11 @@ framingIn = total framingOf
 
 abbrev pub payloadIn : List Heard → ℕ
 payloadIn = total payloadOf
+
+-- the payload behind the last commit, of which so much was taken before: that of the unit still open or failed
+unfoldable pub payloadInHand : (taken : ℕ) → List Heard → ℕ
+payloadInHand taken [] = taken
+payloadInHand taken (h ∷ hs) = payloadInHand (keptBehind (committedIn (h .answer)) (taken + payloadOf h)) hs
 
 -- ---- objects
 
