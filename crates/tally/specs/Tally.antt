@@ -52,6 +52,11 @@ behind t taken n handles = record {
 abbrev pub counted : Tally → Heard → Tally
 counted t h = behind t (takenAs (h .held) (h .answer)) (h .length) (handlesOf (committedIn (h .answer)))
 
+-- and of calls in turn
+abbrev pub countedIn : Tally → List Heard → Tally
+countedIn t [] = t
+countedIn t (h ∷ hs) = countedIn (counted t h) hs
+
 -- what is made of a tally is the tally of the history, with the call behind it, wherever the tally was that of a history
 abbrev pub Continues : Tally → Heard → Tally → Type 0
 Continues t h r = (hs : List Heard) → t ≡ tallyOf hs → r ≡ tallyOf (hs ++ (h ∷ []))
