@@ -5,3 +5,6 @@ pub mod Even
 pub mod Pieces
 pub mod Objects
 pub mod Sums
+pub mod Payload
+pub mod Limits
+pub mod Computed

@@ -1,11 +1,13 @@
 -- Sums over a history: framing and payload make up the bytes, and a call that takes nothing adds nothing.
 use Prim.Native.Nat.{ℕ, _+_}
 use mathlib.Core.List.{List, [], _∷_, _++_, append-nil}
-use mathlib.Core.Path.{_≡_, refl, sym, ap, _∙_}
+use mathlib.Core.Path.{_≡_, refl, sym, ap, ap₂, _∙_}
 use native.Mathlib.Omega.{arith}
+use Rattle.streaming.specs.Record.{Record, committedIn}
 use Rattle.tally.specs.declared.Tally.{Tally}
-use Rattle.tally.specs.History.{Heard, Taken, notTaken, asFraming, asPayload, takenAs, accepted, framed, paid, total, bytesIn, framingIn, payloadIn}
-use Rattle.tally.specs.Tally.{tallyOf, counted, countedIn}
+use Rattle.tally.specs.History.{Heard, Taken, notTaken, asFraming, asPayload, takenAs, accepted, framed, paid, total, bytesIn, framingIn, payloadIn, handlesOf}
+use Rattle.tally.specs.Tally.{tallyOf, behind, counted, countedIn}
+use Rattle.tally.proofs.Laws.{Fits, untaken}
 use Rattle.tally.proofs.Kept.{continued}
 
 -- ---- bytes
@@ -33,3 +35,17 @@ counted-on hs (h ∷ more) =
 
 pub counted-all : (hs : List Heard) → countedIn (tallyOf []) hs ≡ tallyOf hs
 counted-all hs = counted-on [] hs
+
+-- ---- a call that takes nothing
+
+pub fits-of : (hs : List Heard) → Fits (tallyOf hs)
+unfolding tallyOf
+fits-of hs = record { bytes = omega arith; framing = omega arith; payload = omega arith; objects = omega arith; repeats = omega arith }
+
+pub adds-nothing : (hs : List Heard) (h : Heard) → takenAs (h .held) (h .answer) ≡ notTaken → committedIn (h .answer) ≡ []
+    → tallyOf (hs ++ (h ∷ [])) ≡ tallyOf hs
+unfolding handlesOf
+adds-nothing hs h e none =
+    continued hs h
+    ∙ ap₂ (λ (k : Taken) (rs : List Record). behind (tallyOf hs) k (h .length) (handlesOf rs)) e none
+    ∙ sym (untaken (tallyOf hs) (h .length) (fits-of hs))
