@@ -1,5 +1,5 @@
--- Tallies that are computed: document 01's whole case cut in two ways, a piece at fault, and repeats.
-use Prim.Native.Nat.{ℕ}
+-- Tallies that are computed: document 01's whole case cut in two ways, a piece at fault, repeats, and a count at the top.
+use Prim.Native.Nat.{ℕ, _-_, _^_}
 use mathlib.Core.List.{List, [], _∷_}
 use mathlib.Core.Path.{_≡_, refl}
 use lib.ListN.{set}
@@ -71,3 +71,14 @@ pub record Repeated : Type 0 where
 pub repeating : Repeated
 unfolding tallyOf total handlesIn handlesOf repeats lastOf if_then_else_
 repeating = record { twice = refl; zero = refl }
+
+-- ---- at the top
+
+-- a count that would pass 2^64 - 1 stays there, and the others go on
+pub record Stopped : Type 0 where
+  pub bytes : tallyOf (heard failure.None framing (2 ^ 64 - 1) ∷ heard failure.None (payload part.Object) 5 ∷ [])
+      ≡ counts (2 ^ 64 - 1) (2 ^ 64 - 1) 5 0 0 last.None
+
+pub stopped : Stopped
+unfolding tallyOf total handlesIn handlesOf repeats lastOf
+stopped = record { bytes = refl }

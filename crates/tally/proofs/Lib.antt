@@ -8,3 +8,5 @@ pub mod Sums
 pub mod Payload
 pub mod Limits
 pub mod Computed
+pub mod Useless
+pub mod Main
