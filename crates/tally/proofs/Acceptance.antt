@@ -9,7 +9,6 @@ use Rattle.streaming.specs.Choose.{if_then_else_}
 use Rattle.streaming.specs.Record.{committedIn}
 use Rattle.streaming.specs.declared.Request.{Request}
 use Rattle.streaming.specs.declared.StreamError.{StreamError}
-use Rattle.streaming.specs.declared.StreamError.the-variants as error
 use Rattle.streaming.specs.declared.Asked.{Asked}
 use Rattle.streaming.specs.declared.Asked.the-variants as asked
 use Rattle.streaming.specs.declared.Answer.{Answer}
@@ -17,7 +16,6 @@ use Rattle.streaming.specs.declared.Answer.the-variants as answer
 use Rattle.streaming.specs.declared.Step.{Step}
 use Rattle.streaming.specs.declared.Step.the-variants as step
 use Rattle.streaming.specs.declared.Stage.{Stage}
-use Rattle.streaming.specs.declared.Stage.the-variants as stage
 use Rattle.streaming.specs.declared.Failure.{Failure}
 use Rattle.streaming.specs.declared.Failure.the-variants as failure
 use Rattle.streaming.specs.declared.FlatWalker.{FlatWalker}
@@ -30,7 +28,7 @@ use Rattle.flat.proofs.Demanded.{apart, demanded}
 use Rattle.flat.proofs.Outcomes.{StepOrFault, outcome-at}
 use Rattle.flat.proofs.Laws.{Refuses, held, unfit, refuses}
 use Rattle.stands.proofs.Fitness.{flatWalker}
-use Rattle.tally.specs.History.{Heard, Taken, notTaken, asFraming, asPayload, stepTakes, faultTakes, takenAs, isAccepted, accepted, total, bytesIn}
+use Rattle.tally.specs.History.{Heard, Taken, notTaken, asFraming, asPayload, stepTakes, faultTakes, takenAs, isAccepted, acceptedBytes, total, bytesIn}
 use Rattle.tally.specs.Tally.{tallyOf}
 use Rattle.tally.specs.Run.{heardOf, heardIn}
 use Rattle.tally.proofs.Sums.{adds-nothing}
@@ -93,7 +91,7 @@ module _ (s : FlatWalker) (c : Call) where
 
 -- ---- and of a run
 
-accepted-bytes : (k : Taken) (n : ℕ) → accepted k n ≡ if isAccepted k then n else 0
+accepted-bytes : (k : Taken) (n : ℕ) → acceptedBytes k n ≡ if isAccepted k then n else 0
 unfolding if_then_else_
 accepted-bytes notTaken n = refl
 accepted-bytes asFraming n = refl

@@ -1,8 +1,7 @@
 -- Within a demand of the rules every byte is payload or none is. So a piece, which never crosses a demand, is payload whole or not at all.
-use Prim.Native.Nat.{ℕ, zero, suc, _+_, _≤_, _<_}
+use Prim.Native.Nat.{ℕ, zero, suc}
 use mathlib.Core.List.{List, [], _∷_}
-use mathlib.Core.Path.{_≡_, refl, sym, ap, _∙_, subst}
-use native.Mathlib.Omega.{arith}
+use mathlib.Core.Path.{_≡_, refl, sym}
 use lib.ListN.{length, getD}
 use lib.Dec.{ltb, eqb}
 use Rattle.streaming.specs.declared.FlatHeader.{FlatHeader}
@@ -10,7 +9,7 @@ use Rattle.streaming.specs.declared.Fault.{Fault}
 use Rattle.streaming.specs.declared.Asked.{Asked}
 use Rattle.streaming.specs.declared.Answer.{Answer}
 use Rattle.streaming.proofs.Choose.{in-both}
-use Rattle.account.specs.Account.{Account, ask, over, framing, payload, faulted, broken, passed, payloadByte}
+use Rattle.account.specs.Account.{Account, ask, over, framing, payload, passed, payloadByte}
 use Rattle.account.specs.Asking.{Turn, go, saysBefore, askByte, span, passing, oneByOne, spell}
 use Rattle.rules.specs.Rules.{rules}
 use Rattle.rules.proofs.Kept.{Kept, rules-keep}

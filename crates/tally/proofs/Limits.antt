@@ -1,7 +1,7 @@
 -- What bounds the counts of a run, and so that none of them stops at the top.
 use Prim.Native.Nat.{ℕ, _+_, _*_, _/_, _^_, _≤_, _<_}
 use mathlib.Core.List.{List}
-use mathlib.Core.Path.{_≡_, ap, _∙_}
+use mathlib.Core.Path.{_≡_, ap}
 use native.Mathlib.Omega.{arith}
 use native.Mathlib.Nat.{mul-le-mul-left}
 use lib.ListN.{length}
@@ -13,7 +13,7 @@ use Rattle.rules.specs.Header.{locatorOf, mapSize}
 use Rattle.rules.proofs.Header.{started}
 use Rattle.stands.proofs.Fitness.{begun, flatWalker}
 use Rattle.stands.proofs.Main.{bytes-bound, half-the-map}
-use Rattle.tally.specs.History.{Heard, bytesIn, framingIn, payloadIn, handlesIn, handlesOf, repeats}
+use Rattle.tally.specs.History.{Heard, bytesIn, framingIn, payloadIn, handlesIn, repeats}
 use Rattle.tally.specs.Tally.{tallyOf}
 use Rattle.tally.specs.Run.{heardIn}
 use Rattle.tally.proofs.Acceptance.{bytes-taken}

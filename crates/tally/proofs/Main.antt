@@ -16,9 +16,10 @@ use Rattle.rules.specs.Source.{Of}
 use Rattle.rules.specs.Payload.{sizesOf}
 use Rattle.flat.specs.Flat.{requestOf}
 use Rattle.stands.proofs.Fitness.{begun, flatWalker}
-use Rattle.tally.specs.History.{Heard, takenAs, isAccepted, bytesIn, framingIn, payloadIn, payloadInHand, handlesOf, handlesIn, repeats}
-use Rattle.tally.specs.Tally.{capped, tallyOf, countedIn}
+use Rattle.tally.specs.History.{Heard, takenAs, isAccepted, bytesIn, framingIn, payloadIn, openPayload, handlesOf, handlesIn, repeats}
+use Rattle.tally.specs.Tally.{capped, tallyOf, counted, countedIn}
 use Rattle.tally.specs.Run.{heardOf, heardIn}
+use Rattle.tally.proofs.Kept as K
 use Rattle.tally.proofs.Acceptance as A
 use Rattle.tally.proofs.Sums as S
 use Rattle.tally.proofs.Objects as O
@@ -56,6 +57,10 @@ module _ (s : FlatWalker) where
   pub bytes-taken : (cs : List Call) → bytesIn (heardIn s cs) ≡ bytes flatWalker s cs
   bytes-taken cs = A.bytes-taken cs s
 
+  -- One more call makes of the tally so far, counted with the failure held before it, the tally of the run so far.
+  pub run-continued : (cs : List Call) (c : Call) → tallyOf (heardIn s (cs ++ (c ∷ []))) ≡ counted (tallyOf (heardIn s cs)) (heardOf (run flatWalker s cs) c)
+  run-continued cs c = K.run-continued cs s c
+
   -- The objects counted are the object records committed, in their order, and so are the repeats.
   pub handles-committed : (cs : List Call) → handlesIn (heardIn s cs) ≡ handlesOf (committed flatWalker s cs)
   handles-committed cs = O.handles-heard cs s
@@ -63,11 +68,14 @@ module _ (s : FlatWalker) where
   pub objects-committed : (cs : List Call) → length (handlesIn (heardIn s cs)) ≡ objectsIn (committed flatWalker s cs)
   objects-committed cs = ap length (handles-committed cs) ∙ O.handles-objects (committed flatWalker s cs)
 
+  pub repeats-committed : (cs : List Call) → repeats (handlesIn (heardIn s cs)) ≡ repeats (handlesOf (committed flatWalker s cs))
+  repeats-committed cs = ap repeats (handles-committed cs)
+
 -- ---- a run over a source, from a header that Start takes
 
 module _ (h : FlatHeader) (src : List ℕ) (of : Of h src) (cs : List Call) (honest : Honest flatWalker src (begun h) cs) where
   -- Payload is the sizes of what was committed, and the payload taken of the unit still open or failed.
-  pub payload-so-far : payloadIn (heardIn (begun h) cs) ≡ sizesOf (committed flatWalker (begun h) cs) + payloadInHand 0 (heardIn (begun h) cs)
+  pub payload-so-far : payloadIn (heardIn (begun h) cs) ≡ sizesOf (committed flatWalker (begun h) cs) + openPayload 0 (heardIn (begun h) cs)
   payload-so-far = P.payload-so-far-heard h src of cs honest
 
   -- A finished walk has no unit open: its payload is the sizes of its records.

@@ -3,10 +3,7 @@ use Prim.Native.Nat.{ℕ, zero, suc, _+_}
 use mathlib.Core.List.{List}
 use mathlib.Core.Path.{_≡_, refl, sym, ap, _∙_, subst}
 use native.Mathlib.Omega.{arith}
-use native.Mathlib.Nat.{zero-add}
-use Rattle.streaming.specs.Record.{Record}
 use Rattle.streaming.specs.declared.FlatHeader.{FlatHeader}
-use Rattle.streaming.specs.declared.Asked.{Asked}
 use Rattle.streaming.specs.declared.Asked.the-variants as asked
 use Rattle.account.specs.Account.{Account, ask, over, askOf, passed, payloadTaken}
 use Rattle.account.specs.Statement.{Call, Honest}
@@ -21,7 +18,7 @@ use Rattle.flat.specs.Flat.{requestOf}
 use Rattle.flat.proofs.Demanded.{apart}
 use Rattle.stands.proofs.Fitness.{begun, flatWalker}
 use Rattle.stands.proofs.Main.{meets, whole}
-use Rattle.tally.specs.History.{payloadIn, payloadInHand}
+use Rattle.tally.specs.History.{payloadIn, openPayload}
 use Rattle.tally.specs.Run.{heardIn}
 use Rattle.tally.proofs.Even.{rules-even}
 use Rattle.tally.proofs.Pieces.{Paid, run-paid}
@@ -45,7 +42,7 @@ module _ (h : FlatHeader) (src : List ℕ) (of : Of h src) (cs : List Call) (hon
   paying : Paid cs (begun h) (rules h src)
   paying = run-paid cs (begun h) (rules-tidy h src) (rules-even h src) (meets-does Of rules flatWalker meets h src of) honest
 
-  pub payload-so-far-heard : payloadIn (heardIn (begun h) cs) ≡ sizesOf (committed flatWalker (begun h) cs) + payloadInHand 0 (heardIn (begun h) cs)
+  pub payload-so-far-heard : payloadIn (heardIn (begun h) cs) ≡ sizesOf (committed flatWalker (begun h) cs) + openPayload 0 (heardIn (begun h) cs)
   payload-so-far-heard =
       let n = bytes flatWalker (begun h) cs in
       let sizes = ap sizesOf (committed-within Of rules (λ h src of. rules-tidy h src) flatWalker meets h src of cs honest) in

@@ -17,7 +17,7 @@ use Rattle.streaming.specs.declared.Answer.the-variants as answer
 use Rattle.streaming.specs.declared.Failure.{Failure}
 use Rattle.streaming.specs.declared.Failure.the-variants as failure
 use Rattle.streaming.specs.declared.FlatWalker.{FlatWalker}
-use Rattle.account.specs.Account.{Account, ask, over, demand, faulted, askOf, passed, saysAt, payloadByte}
+use Rattle.account.specs.Account.{Account, ask, over, demand, askOf, passed, saysAt, payloadByte}
 use Rattle.account.specs.Statement.{Call, takes, refusal, answerOf, after, part, HonestCall, Honest}
 use Rattle.account.specs.Runs.{bytes, Past}
 use Rattle.account.specs.Tidy.{Quiet, last, more, torn, Tidy, tidy-over, tidy-ask}
@@ -30,9 +30,9 @@ use Rattle.rules.specs.Payload.{payloadWithin, keptBehind}
 use Rattle.rules.specs.Payload as rules
 use Rattle.flat.specs.Flat.{feedOf}
 use Rattle.stands.proofs.Fitness.{flatWalker}
-use Rattle.tally.specs.History.{stepTakes, faultTakes, refusalTakes, takenAs, paid, payloadOf, total, payloadIn, payloadInHand}
+use Rattle.tally.specs.History.{faultTakes, refusalTakes, takenAs, payloadBytes, payloadOf, total, payloadIn, openPayload}
 use Rattle.tally.specs.Run.{heardOf, heardIn}
-use Rattle.tally.proofs.Even.{Alike, Even, even-over, even-last, even-more, even-passed}
+use Rattle.tally.proofs.Even.{Alike, Even, even-last, even-more, even-passed}
 
 -- ---- an account's payload, in two parts
 
@@ -53,11 +53,11 @@ hand-more taken (suc n) (suc k) (over q) = rw suc-add
 -- ---- what an answer pays
 
 module _ (held : Failure) where
-  fault-pays : (x : Failure) (n : ℕ) → paid (faultTakes x) n ≡ 0
+  fault-pays : (x : Failure) (n : ℕ) → payloadBytes (faultTakes x) n ≡ 0
   fault-pays failure.None n = refl
   fault-pays (failure.Held f) n = refl
 
-  pub refusal-pays : (e : StreamError) (n : ℕ) → paid (refusalTakes held e) n ≡ 0
+  pub refusal-pays : (e : StreamError) (n : ℕ) → payloadBytes (refusalTakes held e) n ≡ 0
   refusal-pays (error.LocatorCount count) n = refl
   refusal-pays (error.LocatorRange number) n = refl
   refusal-pays error.Finished n = refl
@@ -69,7 +69,7 @@ module _ (held : Failure) where
   refusal-pays error.BadState n = refl
 
   -- a byte more of the same answer
-  pays-more : (a : Answer) (n : ℕ) → paid (takenAs held a) (suc n) ≡ payloadByte a + paid (takenAs held a) n
+  pays-more : (a : Answer) (n : ℕ) → payloadBytes (takenAs held a) (suc n) ≡ payloadByte a + payloadBytes (takenAs held a) n
   pays-more (answer.Step step.Framing) n = refl
   pays-more (answer.Step (step.Payload part)) n = omega arith
   pays-more (answer.Step (step.Section r)) n = refl
@@ -77,7 +77,7 @@ module _ (held : Failure) where
   pays-more (answer.Step step.Finished) n = refl
   pays-more (answer.Refused e) n = omega (arith, refusal-pays e n, refusal-pays e (suc n))
 
-  pays-none : (a : Answer) → paid (takenAs held a) 0 ≡ 0
+  pays-none : (a : Answer) → payloadBytes (takenAs held a) 0 ≡ 0
   pays-none (answer.Step step.Framing) = refl
   pays-none (answer.Step (step.Payload part)) = refl
   pays-none (answer.Step (step.Section r)) = refl
@@ -102,7 +102,7 @@ first (ask at left says rest) = payloadByte says
 first (over q) = 0
 
 record Piece (held : Failure) (n : ℕ) (a : Account) : Type 0 where
-  pays : paid (takenAs held (saysAt n a)) n ≡ payloadWithin n a
+  pays : payloadBytes (takenAs held (saysAt n a)) n ≡ payloadWithin n a
   kind : first a ≡ payloadByte (saysAt n a)
   hand : (before : ℕ) → rules.payloadInHand before n a ≡ keptBehind (committedIn (saysAt n a)) (before + payloadWithin n a)
 
@@ -128,7 +128,7 @@ module _ (held : Failure) where
   piece (suc n) (tidy-ask {at = place} {says = s} {rest = rest} p (more {left = l} q j) t) (even-more k v) at left e h i =
       let z = piece n t v (suc place) l j (omega (arith, demand-same e)) (omega (arith, demand-same e)) in
       let same : payloadByte s ≡ payloadByte (saysAt (suc n) rest) =
-          alike-first s k t (suc place) l j (omega (arith, demand-same e)) ∙ z .kind in
+      alike-first s k t (suc place) l j (omega (arith, demand-same e)) ∙ z .kind in
       record {
         pays = omega (arith, pays-more held (saysAt (suc n) rest) (suc n), z .pays);
         kind = same;
@@ -149,8 +149,8 @@ module _ (held : Failure) where
 
 -- an answer to a call pays what its bytes do, and leaves in hand what they leave
 record Pays (held : Failure) (c : Call) (a : Account) (x : Answer) : Type 0 where
-  pays : paid (takenAs held x) (length (c .piece)) ≡ payloadWithin (taking (askOf a) c) a
-  hand : (before : ℕ) → keptBehind (committedIn x) (before + paid (takenAs held x) (length (c .piece))) ≡ rules.payloadInHand before (taking (askOf a) c) a
+  pays : payloadBytes (takenAs held x) (length (c .piece)) ≡ payloadWithin (taking (askOf a) c) a
+  hand : (before : ℕ) → keptBehind (committedIn x) (before + payloadBytes (takenAs held x) (length (c .piece))) ≡ rules.payloadInHand before (taking (askOf a) c) a
 
 call-pays : (held : Failure) {src : List ℕ} {a : Account} → Tidy src a → Even a → (c : Call)
     → (takes (askOf a) c ≡ true → c .piece ≡ part src (c .offset) (length (c .piece))) → Pays held c a (answerOf a c)
@@ -175,7 +175,7 @@ call-pays held {a = a} t v c honest = split (takes (askOf a) c) refl
 -- what is heard of a run pays what the bytes taken do
 pub record Paid (cs : List Call) (s : FlatWalker) (a : Account) : Type 0 where
   pub heard : payloadIn (heardIn s cs) ≡ payloadWithin (bytes flatWalker s cs) a
-  pub hand : (before : ℕ) → payloadInHand before (heardIn s cs) ≡ rules.payloadInHand before (bytes flatWalker s cs) a
+  pub hand : (before : ℕ) → openPayload before (heardIn s cs) ≡ rules.payloadInHand before (bytes flatWalker s cs) a
 
 module _ {src : List ℕ} where
   call-heard : (c : Call) (s : FlatWalker) {a : Account} → Tidy src a → Even a → Does flatWalker src s a → HonestCall flatWalker src s c
@@ -184,7 +184,7 @@ module _ {src : List ℕ} where
       subst (Pays (s .failure) c a) (sym (answers flatWalker s a d c h)) (call-pays (s .failure) t v c (λ e. h (rw (asks flatWalker s a d .request) e)))
 
   pub run-paid : (cs : List Call) (s : FlatWalker) {a : Account} → Tidy src a → Even a → Does flatWalker src s a → Honest flatWalker src s cs → Paid cs s a
-  unfolding heardIn total payloadInHand rules.payloadInHand payloadWithin
+  unfolding heardIn total openPayload rules.payloadInHand payloadWithin
   run-paid [] s t v d h = record { heard = refl; hand = λ before. refl }
   run-paid (c ∷ cs) s {a} t v d h =
       let next = feedOf s (c .offset) (c .piece) .state in

@@ -5,14 +5,14 @@ use mathlib.Core.Path.{_≡_, refl, sym, ap, ap₂, _∙_}
 use native.Mathlib.Omega.{arith}
 use Rattle.streaming.specs.Record.{Record, committedIn}
 use Rattle.tally.specs.declared.Tally.{Tally}
-use Rattle.tally.specs.History.{Heard, Taken, notTaken, asFraming, asPayload, takenAs, accepted, framed, paid, total, bytesIn, framingIn, payloadIn, handlesOf}
-use Rattle.tally.specs.Tally.{tallyOf, behind, counted, countedIn}
+use Rattle.tally.specs.History.{Heard, Taken, notTaken, asFraming, asPayload, takenAs, acceptedBytes, framingBytes, payloadBytes, total, bytesIn, framingIn, payloadIn, handlesOf}
+use Rattle.tally.specs.Tally.{tallyOf, behind, countedIn}
 use Rattle.tally.proofs.Laws.{Fits, untaken}
 use Rattle.tally.proofs.Kept.{continued}
 
 -- ---- bytes
 
-taken-adds-up : (k : Taken) (n : ℕ) → framed k n + paid k n ≡ accepted k n
+taken-adds-up : (k : Taken) (n : ℕ) → framingBytes k n + payloadBytes k n ≡ acceptedBytes k n
 taken-adds-up notTaken n = refl
 taken-adds-up asFraming n = omega arith
 taken-adds-up asPayload n = omega arith

@@ -1,13 +1,13 @@
 -- Useless counters break the contract of `count`: each is refuted by a history of one call or two.
 use Prim.Native.Nat.{ℕ, _+_, _-_, _%_, _^_}
-use mathlib.Core.List.{List, [], _∷_}
-use mathlib.Core.Path.{_≡_, refl, sym, ap, _∙_}
+use mathlib.Core.List.{[], _∷_}
+use mathlib.Core.Path.{_≡_, refl, ap}
 use native.Mathlib.Omega.{arith}
 use Rattle.streaming.specs.declared.Fault.the-variants as fault
 use Rattle.streaming.specs.declared.Failure.the-variants as failure
 use Rattle.account.specs.Account.{framing, faulted}
 use Rattle.tally.specs.declared.Tally.{Tally}
-use Rattle.tally.specs.History.{Heard, heard, total, handlesOf, handlesIn}
+use Rattle.tally.specs.History.{Heard, heard, total}
 use Rattle.tally.specs.Tally.{tallyOf, Continues}
 
 -- any function from a tally and a call to a tally that meets the contract

@@ -66,29 +66,29 @@ isAccepted asPayload = true
 
 -- ---- bytes of one call
 
-abbrev pub accepted : Taken → ℕ → ℕ
-accepted notTaken n = 0
-accepted asFraming n = n
-accepted asPayload n = n
+abbrev pub acceptedBytes : Taken → ℕ → ℕ
+acceptedBytes notTaken n = 0
+acceptedBytes asFraming n = n
+acceptedBytes asPayload n = n
 
-abbrev pub framed : Taken → ℕ → ℕ
-framed notTaken n = 0
-framed asFraming n = n
-framed asPayload n = 0
+abbrev pub framingBytes : Taken → ℕ → ℕ
+framingBytes notTaken n = 0
+framingBytes asFraming n = n
+framingBytes asPayload n = 0
 
-abbrev pub paid : Taken → ℕ → ℕ
-paid notTaken n = 0
-paid asFraming n = 0
-paid asPayload n = n
+abbrev pub payloadBytes : Taken → ℕ → ℕ
+payloadBytes notTaken n = 0
+payloadBytes asFraming n = 0
+payloadBytes asPayload n = n
 
 abbrev pub bytesOf : Heard → ℕ
-bytesOf h = accepted (takenAs (h .held) (h .answer)) (h .length)
+bytesOf h = acceptedBytes (takenAs (h .held) (h .answer)) (h .length)
 
 abbrev pub framingOf : Heard → ℕ
-framingOf h = framed (takenAs (h .held) (h .answer)) (h .length)
+framingOf h = framingBytes (takenAs (h .held) (h .answer)) (h .length)
 
 abbrev pub payloadOf : Heard → ℕ
-payloadOf h = paid (takenAs (h .held) (h .answer)) (h .length)
+payloadOf h = payloadBytes (takenAs (h .held) (h .answer)) (h .length)
 
 -- ---- bytes of a history
 
@@ -106,9 +106,9 @@ abbrev pub payloadIn : List Heard → ℕ
 payloadIn = total payloadOf
 
 -- the payload behind the last commit, of which so much was taken before: that of the unit still open or failed
-unfoldable pub payloadInHand : (taken : ℕ) → List Heard → ℕ
-payloadInHand taken [] = taken
-payloadInHand taken (h ∷ hs) = payloadInHand (keptBehind (committedIn (h .answer)) (taken + payloadOf h)) hs
+unfoldable pub openPayload : (taken : ℕ) → List Heard → ℕ
+openPayload taken [] = taken
+openPayload taken (h ∷ hs) = openPayload (keptBehind (committedIn (h .answer)) (taken + payloadOf h)) hs
 
 -- ---- objects
 
