@@ -41,7 +41,8 @@ module _ (src : List ℕ) where
   even-byte : (at left : ℕ) (says : Answer) (rest : Account) → Even (ask at left says rest) → Even (askByte src at left says rest)
   even-byte at left says rest e = in-both Even (ltb at (length src)) (λ i. e) (λ o. even-over)
 
-  alike-byte : (plain : Answer) (at left : ℕ) (says : Answer) (rest : Account) → payloadByte plain ≡ payloadByte says → Alike plain (askByte src at left says rest)
+  alike-byte : (plain : Answer) (at left : ℕ) (says : Answer) (rest : Account) → payloadByte plain ≡ payloadByte says
+      → Alike plain (askByte src at left says rest)
   alike-byte plain at left says rest e = in-both (Alike plain) (ltb at (length src)) (λ i. e) (λ o. tt)
 
   alike-before : (n : ℕ) (plain : Answer) (t : Turn) → payloadByte (t .says) ≡ payloadByte plain → payloadByte plain ≡ payloadByte (saysBefore n plain t)

@@ -75,5 +75,6 @@ pub by-refusal : (t : Tally) (held : Failure) (n : ℕ) (e e′ : StreamError) (
     → r ≡ behind t (refusalTakes held e) n []
 by-refusal t held n e e′ r same k = k ∙ ap (λ (y : StreamError). behind t (refusalTakes held y) n []) (sym same)
 
-pub by-answer : (t : Tally) (held : Failure) (n : ℕ) (a a′ : Answer) (r : Tally) → a ≡ a′ → r ≡ counted t (heard held a′ n) → r ≡ counted t (heard held a n)
+pub by-answer : (t : Tally) (held : Failure) (n : ℕ) (a a′ : Answer) (r : Tally) → a ≡ a′ → r ≡ counted t (heard held a′ n)
+    → r ≡ counted t (heard held a n)
 by-answer t held n a a′ r same k = k ∙ ap (λ (x : Answer). counted t (heard held x n)) (sym same)

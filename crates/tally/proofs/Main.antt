@@ -102,7 +102,7 @@ module _ (h : FlatHeader) (src : List ℕ) (of : Of h src) (cs : List Call) (hon
 pub whole-case : C.WholeCase
 whole-case = C.whole-case
 
--- A piece at fault is framing, whole, and the calls behind it count nothing.
+-- A piece at fault is framing, whole, and the calls behind it count nothing; nor does a call to a walk that failed on entering.
 pub faulty : C.Faulty
 faulty = C.faulty
 

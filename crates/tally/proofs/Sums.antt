@@ -5,7 +5,8 @@ use mathlib.Core.Path.{_≡_, refl, sym, ap, ap₂, _∙_}
 use native.Mathlib.Omega.{arith}
 use Rattle.streaming.specs.Record.{Record, committedIn}
 use Rattle.tally.specs.declared.Tally.{Tally}
-use Rattle.tally.specs.History.{Heard, Taken, notTaken, asFraming, asPayload, takenAs, acceptedBytes, framingBytes, payloadBytes, total, bytesIn, framingIn, payloadIn, handlesOf}
+use Rattle.tally.specs.History.{Heard, Taken, notTaken, asFraming, asPayload, takenAs, acceptedBytes, framingBytes, payloadBytes}
+use Rattle.tally.specs.History.{total, bytesIn, framingIn, payloadIn, handlesOf}
 use Rattle.tally.specs.Tally.{tallyOf, behind, countedIn}
 use Rattle.tally.proofs.Laws.{Fits, untaken}
 use Rattle.tally.proofs.Kept.{continued}

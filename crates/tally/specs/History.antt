@@ -26,7 +26,7 @@ heard held answer length = record { held = held; answer = answer; length = lengt
 
 -- ---- what became of the piece
 
--- none of it was taken, or all of it
+-- none of it was taken, or all of it: as framing, or as payload
 pub data Taken : Type 0 where
   notTaken asFraming asPayload : Taken
 
@@ -37,7 +37,7 @@ stepTakes (step.Section r) = asFraming
 stepTakes (step.Object r) = asFraming
 stepTakes step.Finished = asFraming
 
--- a fault that no call has answered before came with this piece; one that was held is only said again
+-- a fault that was not held before the call came with its piece; one that was held is only said again
 abbrev pub faultTakes : Failure → Taken
 faultTakes failure.None = asFraming
 faultTakes (failure.Held f) = notTaken
