@@ -103,27 +103,29 @@ fn further_on(at: usize, n: usize) -> usize
     at + n
 }
 
-// A reader at the first bit.
-pub fn new<'a>(bytes: &'a [u8]) -> BitReader<'a>
-    ensures { λ r. ⌜ r ≡ readerAt (bytes .entry) 0 ⌝ }
-{
-    BitReader { bytes, at: 0 }
-}
+impl<'a> BitReader<'a> {
+    // A reader at the first bit.
+    pub fn new(bytes: &'a [u8]) -> BitReader<'a>
+        ensures { λ r. ⌜ r ≡ readerAt (bytes .entry) 0 ⌝ }
+    {
+        BitReader { bytes, at: 0 }
+    }
 
-// The next n bits. The reader stays where it is.
-pub fn take<'a>(reader: BitReader<'a>, n: usize) -> Taken
-    ensures { λ r. ⌜ r ≡ takenAt (now (reader .entry .bytes)) (reader .entry .at) n ⌝ }
-{
-    take_at(reader.bytes, reader.at, n)
-}
+    // The next n bits. The reader stays where it is.
+    pub fn take(self, n: usize) -> Taken
+        ensures { λ r. ⌜ r ≡ takenAt (now (self .entry .bytes)) (self .entry .at) n ⌝ }
+    {
+        take_at(self.bytes, self.at, n)
+    }
 
-// The reader behind the next n bits, whether they are there or not.
-pub fn skip<'a>(reader: BitReader<'a>, n: usize) -> BitReader<'a>
-    ensures { λ r. ⌜ r ≡ skipped (reader .entry) n ⌝ }
-{
-    BitReader {
-        bytes: reader.bytes,
-        at: further_on(reader.at, n),
+    // The reader behind the next n bits, whether they are there or not.
+    pub fn skip(self, n: usize) -> BitReader<'a>
+        ensures { λ r. ⌜ r ≡ skipped (self .entry) n ⌝ }
+    {
+        BitReader {
+            bytes: self.bytes,
+            at: further_on(self.at, n),
+        }
     }
 }
 
@@ -200,13 +202,13 @@ fn head_with(code: Taken, bits: Taken, handle: Taken) -> Head
 pub fn prologue(head: &[u8], format: RecordFormat) -> Head
     ensures { λ r. ⌜ r ≡ headOf (prologueOf (ofR2000 format) (now (head .entry))) ⌝ }
 {
-    let start = new(head);
-    let code = take(start, 2);
-    let behind_code = skip(start, 2);
+    let start = BitReader::new(head);
+    let code = start.take(2);
+    let behind_code = start.skip(2);
     let width = type_width(code);
-    let bits = take(behind_code, width);
-    let at_count = skip(behind_code, width + gap_width(format));
-    let count = take(at_count, 4);
-    let handle = take(skip(at_count, 4), handle_width(count));
+    let bits = behind_code.take(width);
+    let at_count = behind_code.skip(width + gap_width(format));
+    let count = at_count.take(4);
+    let handle = at_count.skip(4).take(handle_width(count));
     head_with(code, bits, handle)
 }

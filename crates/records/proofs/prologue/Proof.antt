@@ -55,18 +55,18 @@ use Rattle.records.proofs.RecordFormat as F
 use Rattle.records.proofs.RecordFormat.Laws as F′
 use Rattle.records.proofs.Head as Hd
 use Rattle.records.proofs.Head.Laws as Hd′
-use Rattle.records.proofs.new as new
-use Rattle.records.proofs.new.Symbol as new-def
-use Rattle.records.proofs.new.Symbol.{name as #records·new}
-use Rattle.records.proofs.new.Met as new-thm
-use Rattle.records.proofs.take as take
-use Rattle.records.proofs.take.Symbol as take-def
-use Rattle.records.proofs.take.Symbol.{name as #records·take}
-use Rattle.records.proofs.take.Met as take-thm
-use Rattle.records.proofs.skip as skip
-use Rattle.records.proofs.skip.Symbol as skip-def
-use Rattle.records.proofs.skip.Symbol.{name as #records·skip}
-use Rattle.records.proofs.skip.Met as skip-thm
+use Rattle.records.proofs.BitReader.new as new
+use Rattle.records.proofs.BitReader.new.Symbol as new-def
+use Rattle.records.proofs.BitReader.new.Symbol.{name as #records·new}
+use Rattle.records.proofs.BitReader.new.Met as new-thm
+use Rattle.records.proofs.BitReader.take as take
+use Rattle.records.proofs.BitReader.take.Symbol as take-def
+use Rattle.records.proofs.BitReader.take.Symbol.{name as #records·take}
+use Rattle.records.proofs.BitReader.take.Met as take-thm
+use Rattle.records.proofs.BitReader.skip as skip
+use Rattle.records.proofs.BitReader.skip.Symbol as skip-def
+use Rattle.records.proofs.BitReader.skip.Symbol.{name as #records·skip}
+use Rattle.records.proofs.BitReader.skip.Met as skip-thm
 use Rattle.records.proofs.type_width as type-width
 use Rattle.records.proofs.type_width.Symbol as type-width-def
 use Rattle.records.proofs.type_width.Symbol.{name as #records·type-width}
@@ -353,9 +353,9 @@ prologue-spec 𝓤 H 𝓜 𝓖 𝓡 =
     entered 𝓤 H (tripleOf 𝓤 H (𝓖 .A) prologue.signature (prologue.spec 𝓤 H (𝓖 .A) (𝓜 .mem) (𝓡 .run)))
     (tables 𝓤 H 𝓜 𝓡 code.env .C) (tables 𝓤 H 𝓜 𝓡 code.env .Λ) #records·prologue code.function (code.unfolded 𝓤 H 𝓜 𝓡)
     (prologue-meets 𝓤 H (𝓖 .A) (givenOf 𝓤 H 𝓜 𝓖) (𝓜 .mem) (𝓡 .run) (tablesOf 𝓤 H 𝓜 (tables 𝓤 H 𝓜 𝓡 code.env)) (record {
-      new-is = cited 𝓤 H (New 𝓤 H (𝓖 .A) (𝓜 .mem) (𝓡 .run)) 𝓜 𝓡 code.env #records·new new-def.routine code.calls-records·new (new-thm.met 𝓤 H 𝓜 𝓖 𝓡);
-      take-is = cited 𝓤 H (Take 𝓤 H (𝓖 .A) (𝓜 .mem) (𝓡 .run)) 𝓜 𝓡 code.env #records·take take-def.routine code.calls-records·take (take-thm.met 𝓤 H 𝓜 𝓖 𝓡);
-      skip-is = cited 𝓤 H (Skip 𝓤 H (𝓖 .A) (𝓜 .mem) (𝓡 .run)) 𝓜 𝓡 code.env #records·skip skip-def.routine code.calls-records·skip (skip-thm.met 𝓤 H 𝓜 𝓖 𝓡);
+      new-is = cited 𝓤 H (New 𝓤 H (𝓖 .A) (𝓜 .mem) (𝓡 .run)) 𝓜 𝓡 code.env #records·new new-def.routine code.calls-records·BitReader·new (new-thm.met 𝓤 H 𝓜 𝓖 𝓡);
+      take-is = cited 𝓤 H (Take 𝓤 H (𝓖 .A) (𝓜 .mem) (𝓡 .run)) 𝓜 𝓡 code.env #records·take take-def.routine code.calls-records·BitReader·take (take-thm.met 𝓤 H 𝓜 𝓖 𝓡);
+      skip-is = cited 𝓤 H (Skip 𝓤 H (𝓖 .A) (𝓜 .mem) (𝓡 .run)) 𝓜 𝓡 code.env #records·skip skip-def.routine code.calls-records·BitReader·skip (skip-thm.met 𝓤 H 𝓜 𝓖 𝓡);
       type-width-is = cited 𝓤 H (TypeWidth 𝓤 H (𝓖 .A) (𝓜 .mem) (𝓡 .run)) 𝓜 𝓡 code.env #records·type-width type-width-def.routine code.calls-records·type-width (type-width-thm.met 𝓤 H 𝓜 𝓖 𝓡);
       gap-width-is = cited 𝓤 H (GapWidth 𝓤 H (𝓖 .A) (𝓜 .mem) (𝓡 .run)) 𝓜 𝓡 code.env #records·gap-width gap-width-def.routine code.calls-records·gap-width (gap-width-thm.met 𝓤 H 𝓜 𝓖 𝓡);
       handle-width-is = cited 𝓤 H (HandleWidth 𝓤 H (𝓖 .A) (𝓜 .mem) (𝓡 .run)) 𝓜 𝓡 code.env #records·handle-width handle-width-def.routine code.calls-records·handle-width (handle-width-thm.met 𝓤 H 𝓜 𝓖 𝓡);

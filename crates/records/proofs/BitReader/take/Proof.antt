@@ -47,10 +47,10 @@ use Rattle.records.proofs.take_at as take-at
 use Rattle.records.proofs.take_at.Symbol as take-at-def
 use Rattle.records.proofs.take_at.Symbol.{name as #records·take-at}
 use Rattle.records.proofs.take_at.Met as take-at-thm
-use Rattle.records.proofs.take.Key.{name as #records·take}
-use Rattle.records.proofs.take as take
-use Rattle.records.proofs.take.Statement as stated
-use Rattle.records.proofs.take.Code as code
+use Rattle.records.proofs.BitReader.take.Key.{name as #records·take}
+use Rattle.records.proofs.BitReader.take as take
+use Rattle.records.proofs.BitReader.take.Statement as stated
+use Rattle.records.proofs.BitReader.take.Code as code
 
 abbrev stayed : Stays (take.ended .signature .params) (take.ended .kept)
 stayed = (stay-none Reader yes, (stay-none (λ _. usize) yes, tt))

@@ -40,10 +40,10 @@ use Rattle.records.proofs.further_on as further-on
 use Rattle.records.proofs.further_on.Symbol as further-on-def
 use Rattle.records.proofs.further_on.Symbol.{name as #records·further-on}
 use Rattle.records.proofs.further_on.Met as further-on-thm
-use Rattle.records.proofs.skip.Key.{name as #records·skip}
-use Rattle.records.proofs.skip as skip
-use Rattle.records.proofs.skip.Statement as stated
-use Rattle.records.proofs.skip.Code as code
+use Rattle.records.proofs.BitReader.skip.Key.{name as #records·skip}
+use Rattle.records.proofs.BitReader.skip as skip
+use Rattle.records.proofs.BitReader.skip.Statement as stated
+use Rattle.records.proofs.BitReader.skip.Code as code
 
 abbrev stayed : Stays (skip.ended .signature .params) (skip.ended .kept)
 stayed = (stay-none Reader yes, (stay-none (λ _. usize) yes, tt))

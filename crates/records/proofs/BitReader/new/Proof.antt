@@ -35,10 +35,10 @@ use denote.Triple.Walked.{says, Stays, stay-none-slice, walkOf, goes-none-slice,
 use denote.Exit.{yes}
 use Rattle.records.specs.Reader.{readerAt}
 use Rattle.records.proofs.Readers.{D, L, reader-val}
-use Rattle.records.proofs.new.Key.{name as #records·new}
-use Rattle.records.proofs.new as new
-use Rattle.records.proofs.new.Statement as stated
-use Rattle.records.proofs.new.Code as code
+use Rattle.records.proofs.BitReader.new.Key.{name as #records·new}
+use Rattle.records.proofs.BitReader.new as new
+use Rattle.records.proofs.BitReader.new.Statement as stated
+use Rattle.records.proofs.BitReader.new.Code as code
 
 abbrev stayed : Stays (new.ended .signature .params) (new.ended .kept)
 stayed = (stay-none-slice (0 ∷ []) tt (plain (λ _. u8)) yes, tt)
