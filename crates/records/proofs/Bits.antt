@@ -1,19 +1,18 @@
 -- Laws of bits: n of them make a number below 2^n, and the bits behind them join it; and what taking them answers, test by test.
-use mathlib.Core.Path.{_≡_, refl, sym, _∙_}
+use mathlib.Core.Path.{_≡_}
 use mathlib.Core.List.{List}
 use Prim.Native.Nat.{ℕ, zero, suc, _+_, _-_, _*_, _%_, _^_, _<_, _≤_}
 use native.Mathlib.Nat.{add-zero, add-suc, add-assoc, mul-assoc, pow-suc, pow-succ', mod-lt, mod-eq-of-lt, pow-le-pow-right}
 use native.Mathlib.Omega.{arith}
 use lib.Bits.{bitOr, or-shifted}
-use lib.Dec.{ltb, leb, lit<}
+use lib.Dec.{lit<}
 use lib.ListN.{length}
 use lib.Pow.{pow-pos}
-use borrow.Author.Tests.{lt-ltb, le-ltb, le-leb, lt-leb, leb-true}
+use borrow.Author.Tests.{lt-ltb, le-ltb, le-leb, lt-leb}
 use Rattle.streaming.specs.Choose.{if_then_else_}
-use Rattle.streaming.proofs.Choose.{in-both, and-right}
-use Rattle.rules.specs.Prologue.{Prologue, bitAt, bitsAt, reading}
+use Rattle.streaming.proofs.Choose.{in-both}
+use Rattle.rules.specs.Prologue.{bitAt, bitsAt}
 use Rattle.records.specs.Bits.{takenAt, number, further}
-use Rattle.records.specs.declared.Taken.{Taken}
 use Rattle.records.specs.declared.Taken.the-variants.{Bits, Nothing}
 
 -- a number shifted by k bits has room for k bits

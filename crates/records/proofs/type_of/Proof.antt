@@ -1,5 +1,4 @@
 -- `type_of` meets its contract: a mask of eight bits is a remainder.
-use mathlib.Core.Path.{_∙_}
 use Prim.Native.Nat.{_/_}
 use native.Mathlib.Omega.{arith}
 use lib.Bits.{and-mask}
