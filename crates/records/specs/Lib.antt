@@ -1,2 +1,4 @@
 pub mod Bits
+pub mod Reader
+pub mod Fields
 pub mod Answer

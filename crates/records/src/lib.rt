@@ -2,8 +2,10 @@
 ghost use mathlib.Core.Path.{_≡_};
 ghost use Prim.Native.Nat.{_+_, _*_, _/_, _^_, _<_};
 ghost use lib.ListN.{length};
-ghost use Rattle.rules.specs.Prologue.{bitAt, readingHandle, behindType, readingType, prologueOf};
-ghost use Rattle.records.specs.Bits.{takenAt};
+ghost use Rattle.rules.specs.Prologue.{bitAt, prologueOf};
+ghost use Rattle.records.specs.Bits.{takenAt, number, further};
+ghost use Rattle.records.specs.Reader.{readerAt, skipped};
+ghost use Rattle.records.specs.Fields.{typeWidth, typeOf, gapWidth, headWith};
 ghost use Rattle.records.specs.Answer.{ofR2000, headOf};
 
 // How the data begins, by release.
@@ -26,10 +28,16 @@ pub enum Head {
     Read(Opening),
 }
 
-// The answer to `take_at`: the number that the bits make and the place behind them, or none where the bits run out.
+// The answer to `take`: the number that the bits make, or none where they run out.
 pub enum Taken {
     Nothing,
-    Bits(u64, usize),
+    Bits(u64),
+}
+
+// A reader of bits: the bytes that it was lent, and the place of the bit that comes next.
+pub struct BitReader<'a> {
+    pub bytes: &'a [u8],
+    pub at: usize,
 }
 
 fn wide(b: u8) -> u64
@@ -82,77 +90,125 @@ pub fn take_at(bytes: &[u8], at: usize, n: usize) -> Taken
         value = push(value, bit_at(bytes, at + i));
         i += 1;
     }
-    Taken::Bits(value, end)
+    Taken::Bits(value)
 }
 
-// What stands behind the type in R14: 4 bits are skipped, 4 bits count, and that many bytes are the handle.
-fn handle_at(bytes: &[u8], at: usize, type_code: u16) -> Head
-    requires { ⌜ at + 72 < 2 ^ 64 ⌝ }
-    ensures { λ r. ⌜ r ≡ headOf (readingHandle (now (bytes .entry)) «type_code» at) ⌝ }
+// The place n bits further on, or the last one.
+fn further_on(at: usize, n: usize) -> usize
+    ensures { λ r. ⌜ r ≡ further at n ⌝ }
 {
-    let Taken::Bits(_, at) = take_at(bytes, at, 4) else {
-        return Head::Nothing;
-    };
-    let Taken::Bits(count, at) = take_at(bytes, at, 4) else {
-        return Head::Nothing;
-    };
-    if count > 8 {
-        return Head::Nothing;
+    if at > usize::MAX - n {
+        return usize::MAX;
     }
-    let Taken::Bits(handle, _) = take_at(bytes, at, 8 * count as usize) else {
-        return Head::Nothing;
-    };
-    Head::Read(Opening { type_code, handle })
+    at + n
 }
 
-// What stands behind the type: in R2000 32 bits are skipped.
-fn behind_type(bytes: &[u8], at: usize, format: RecordFormat, type_code: u16) -> Head
-    requires { ⌜ at + 104 < 2 ^ 64 ⌝ }
-    ensures { λ r. ⌜ r ≡ headOf (behindType (now (bytes .entry)) (ofR2000 format) «type_code» at) ⌝ }
-{
-    match format {
-        RecordFormat::R14 => handle_at(bytes, at, type_code),
-        RecordFormat::R2000 => {
-            let Taken::Bits(_, at) = take_at(bytes, at, 32) else {
-                return Head::Nothing;
-            };
-            handle_at(bytes, at, type_code)
+impl<'a> BitReader<'a> {
+    // A reader at the first bit.
+    pub fn new(bytes: &'a [u8]) -> BitReader<'a>
+        ensures { λ r. ⌜ r ≡ readerAt (bytes .entry) 0 ⌝ }
+    {
+        BitReader { bytes, at: 0 }
+    }
+
+    // The next n bits. The reader stays where it is.
+    pub fn take(self, n: usize) -> Taken
+        ensures { λ r. ⌜ r ≡ takenAt (now (self .entry .bytes)) (self .entry .at) n ⌝ }
+    {
+        take_at(self.bytes, self.at, n)
+    }
+
+    // The reader behind the next n bits, whether they are there or not.
+    pub fn skip(self, n: usize) -> BitReader<'a>
+        ensures { λ r. ⌜ r ≡ skipped (self .entry) n ⌝ }
+    {
+        BitReader {
+            bytes: self.bytes,
+            at: further_on(self.at, n),
         }
     }
 }
 
-// What stands behind the type's code: the type, low byte first where it has two, and what stands behind it.
-fn type_at(bytes: &[u8], at: usize, format: RecordFormat, code: u64) -> Head
-    requires { ⌜ at + 120 < 2 ^ 64 ⌝ }
-    ensures { λ r. ⌜ r ≡ headOf (readingType (now (bytes .entry)) code at (behindType (now (bytes .entry)) (ofR2000 format))) ⌝ }
+// The number that was taken, 0 for none.
+fn number_of(taken: Taken) -> u64
+    ensures { λ r. ⌜ r ≡ number taken ⌝ }
 {
-    if code == 0 {
-        let Taken::Bits(low, at) = take_at(bytes, at, 8) else {
-            return Head::Nothing;
-        };
-        let Taken::Bits(high, at) = take_at(bytes, at, 8) else {
-            return Head::Nothing;
-        };
-        return behind_type(bytes, at, format, word(low, high));
+    match taken {
+        Taken::Nothing => 0,
+        Taken::Bits(value) => value,
     }
-    if code == 1 {
-        let Taken::Bits(byte, at) = take_at(bytes, at, 8) else {
-            return Head::Nothing;
-        };
-        return behind_type(bytes, at, format, byte as u16);
-    }
-    if code == 2 {
-        return behind_type(bytes, at, format, 0);
-    }
-    behind_type(bytes, at, format, 256)
 }
 
-// The type and the handle that an object's data begins with.
+// How many bits the type has, by its code.
+fn type_width(code: Taken) -> usize
+    ensures { λ r. ⌜ r ≡ typeWidth (number code) ⌝ }
+{
+    let code = number_of(code);
+    if code == 0 {
+        return 16;
+    }
+    if code == 1 {
+        return 8;
+    }
+    0
+}
+
+// How many bits are skipped between the type and the handle's count.
+fn gap_width(format: RecordFormat) -> usize
+    ensures { λ r. ⌜ r ≡ gapWidth (ofR2000 format) ⌝ }
+{
+    match format {
+        RecordFormat::R14 => 4,
+        RecordFormat::R2000 => 36,
+    }
+}
+
+// How many bits the handle has.
+fn handle_width(count: Taken) -> usize
+    requires { ⌜ number count < 16 ⌝ }
+    ensures { λ r. ⌜ r ≡ 8 * number count ⌝ }
+{
+    8 * number_of(count) as usize
+}
+
+// The type, by its code and its bits: the low byte stands first where it has two.
+fn type_of(code: u64, bits: u64) -> u16
+    ensures { λ r. ⌜ r ≡ typeOf code bits ⌝ }
+{
+    if code == 0 {
+        return word((bits >> 8) & 255, bits & 255);
+    }
+    if code == 1 {
+        return (bits & 255) as u16;
+    }
+    if code == 2 {
+        return 0;
+    }
+    256
+}
+
+// The answer, by what was taken for the type's code, the type and the handle. The handle stands last: if its bits are there, all are.
+fn head_with(code: Taken, bits: Taken, handle: Taken) -> Head
+    ensures { λ r. ⌜ r ≡ headWith (number code) (number bits) handle ⌝ }
+{
+    let Taken::Bits(handle) = handle else {
+        return Head::Nothing;
+    };
+    let type_code = type_of(number_of(code), number_of(bits));
+    Head::Read(Opening { type_code, handle })
+}
+
+// The type and the handle that an object's data begins with. A count above 8 is more than 64 bits of handle, which are never taken.
 pub fn prologue(head: &[u8], format: RecordFormat) -> Head
     ensures { λ r. ⌜ r ≡ headOf (prologueOf (ofR2000 format) (now (head .entry))) ⌝ }
 {
-    let Taken::Bits(code, at) = take_at(head, 0, 2) else {
-        return Head::Nothing;
-    };
-    type_at(head, at, format, code)
+    let start = BitReader::new(head);
+    let code = start.take(2);
+    let behind_code = start.skip(2);
+    let width = type_width(code);
+    let bits = behind_code.take(width);
+    let at_count = behind_code.skip(width + gap_width(format));
+    let count = at_count.take(4);
+    let handle = at_count.skip(4).take(handle_width(count));
+    head_with(code, bits, handle)
 }

@@ -1,14 +1,14 @@
 -- A piece counts as accepted exactly where the statement takes its call: for every state and every call.
 use Prim.Native.Nat.{ℕ}
 use mathlib.Core.Bool.{Bool, true, false, _&&_, false≢true}
-use mathlib.Core.List.{List, [], _∷_}
+use mathlib.Core.List.{List, [], _∷_, _++_}
 use mathlib.Core.Path.{_≡_, refl, sym, ap, ap₂, _∙_}
 use lib.ListN.{length}
 use lib.Dec.{ltb, leb, eqb}
 use Rattle.streaming.specs.Choose.{if_then_else_}
+use Rattle.streaming.specs.Record.{committedIn}
 use Rattle.streaming.specs.declared.Request.{Request}
 use Rattle.streaming.specs.declared.StreamError.{StreamError}
-use Rattle.streaming.specs.declared.StreamError.the-variants as error
 use Rattle.streaming.specs.declared.Asked.{Asked}
 use Rattle.streaming.specs.declared.Asked.the-variants as asked
 use Rattle.streaming.specs.declared.Answer.{Answer}
@@ -16,7 +16,6 @@ use Rattle.streaming.specs.declared.Answer.the-variants as answer
 use Rattle.streaming.specs.declared.Step.{Step}
 use Rattle.streaming.specs.declared.Step.the-variants as step
 use Rattle.streaming.specs.declared.Stage.{Stage}
-use Rattle.streaming.specs.declared.Stage.the-variants as stage
 use Rattle.streaming.specs.declared.Failure.{Failure}
 use Rattle.streaming.specs.declared.Failure.the-variants as failure
 use Rattle.streaming.specs.declared.FlatWalker.{FlatWalker}
@@ -29,8 +28,10 @@ use Rattle.flat.proofs.Demanded.{apart, demanded}
 use Rattle.flat.proofs.Outcomes.{StepOrFault, outcome-at}
 use Rattle.flat.proofs.Laws.{Refuses, held, unfit, refuses}
 use Rattle.stands.proofs.Fitness.{flatWalker}
-use Rattle.tally.specs.History.{Heard, Taken, notTaken, asFraming, asPayload, stepTakes, faultTakes, takenAs, isAccepted, accepted, total, bytesIn}
+use Rattle.tally.specs.History.{Heard, Taken, notTaken, asFraming, asPayload, stepTakes, faultTakes, takenAs, isAccepted, acceptedBytes, total, bytesIn}
+use Rattle.tally.specs.Tally.{tallyOf}
 use Rattle.tally.specs.Run.{heardOf, heardIn}
+use Rattle.tally.proofs.Sums.{adds-nothing}
 
 -- ---- what is heard of one call
 
@@ -90,7 +91,7 @@ module _ (s : FlatWalker) (c : Call) where
 
 -- ---- and of a run
 
-accepted-bytes : (k : Taken) (n : ℕ) → accepted k n ≡ if isAccepted k then n else 0
+accepted-bytes : (k : Taken) (n : ℕ) → acceptedBytes k n ≡ if isAccepted k then n else 0
 unfolding if_then_else_
 accepted-bytes notTaken n = refl
 accepted-bytes asFraming n = refl
@@ -104,8 +105,19 @@ bytes-taken (c ∷ cs) s =
     let one = accepted-bytes (takenAs (s .failure) (heardOf s c .answer)) n ∙ ap (λ (b : Bool). if b then n else 0) (accepted-taken s c) in
     rw (one, bytes-taken cs (feedOf s (c .offset) (c .piece) .state))
 
--- a call that is not taken is none of a tally's business
-pub not-taken : (k : Taken) → isAccepted k ≡ false → k ≡ notTaken
-not-taken notTaken e = refl
-not-taken asFraming e = absurd (false≢true (sym e))
-not-taken asPayload e = absurd (false≢true (sym e))
+-- ---- a call that is not taken
+
+not-accepted : (k : Taken) → isAccepted k ≡ false → k ≡ notTaken
+not-accepted notTaken e = refl
+not-accepted asFraming e = absurd (false≢true (sym e))
+not-accepted asPayload e = absurd (false≢true (sym e))
+
+commits-none : (x : Failure) (a : Answer) → isAccepted (takenAs x a) ≡ false → committedIn a ≡ []
+commits-none x (answer.Step y) e = absurd (false≢true (sym e ∙ step-accepted y))
+commits-none x (answer.Refused y) e = refl
+
+-- it leaves the tally of every history as it was
+pub refused-adds-nothing : (s : FlatWalker) (c : Call) → takes (requestOf s) c ≡ false → (hs : List Heard) → tallyOf (hs ++ (heardOf s c ∷ [])) ≡ tallyOf hs
+refused-adds-nothing s c refused hs =
+    let e = accepted-taken s c ∙ refused in
+    adds-nothing hs (heardOf s c) (not-accepted (takenAs (s .failure) (heardOf s c .answer)) e) (commits-none (s .failure) (heardOf s c .answer) e)

@@ -1,8 +1,7 @@
 -- Within a demand of the rules every byte is payload or none is. So a piece, which never crosses a demand, is payload whole or not at all.
-use Prim.Native.Nat.{ℕ, zero, suc, _+_, _≤_, _<_}
+use Prim.Native.Nat.{ℕ, zero, suc}
 use mathlib.Core.List.{List, [], _∷_}
-use mathlib.Core.Path.{_≡_, refl, sym, ap, _∙_, subst}
-use native.Mathlib.Omega.{arith}
+use mathlib.Core.Path.{_≡_, refl, sym}
 use lib.ListN.{length, getD}
 use lib.Dec.{ltb, eqb}
 use Rattle.streaming.specs.declared.FlatHeader.{FlatHeader}
@@ -10,7 +9,7 @@ use Rattle.streaming.specs.declared.Fault.{Fault}
 use Rattle.streaming.specs.declared.Asked.{Asked}
 use Rattle.streaming.specs.declared.Answer.{Answer}
 use Rattle.streaming.proofs.Choose.{in-both}
-use Rattle.account.specs.Account.{Account, ask, over, framing, payload, faulted, broken, passed, payloadByte}
+use Rattle.account.specs.Account.{Account, ask, over, framing, payload, passed, payloadByte}
 use Rattle.account.specs.Asking.{Turn, go, saysBefore, askByte, span, passing, oneByOne, spell}
 use Rattle.rules.specs.Rules.{rules}
 use Rattle.rules.proofs.Kept.{Kept, rules-keep}
@@ -42,7 +41,8 @@ module _ (src : List ℕ) where
   even-byte : (at left : ℕ) (says : Answer) (rest : Account) → Even (ask at left says rest) → Even (askByte src at left says rest)
   even-byte at left says rest e = in-both Even (ltb at (length src)) (λ i. e) (λ o. even-over)
 
-  alike-byte : (plain : Answer) (at left : ℕ) (says : Answer) (rest : Account) → payloadByte plain ≡ payloadByte says → Alike plain (askByte src at left says rest)
+  alike-byte : (plain : Answer) (at left : ℕ) (says : Answer) (rest : Account) → payloadByte plain ≡ payloadByte says
+      → Alike plain (askByte src at left says rest)
   alike-byte plain at left says rest e = in-both (Alike plain) (ltb at (length src)) (λ i. e) (λ o. tt)
 
   alike-before : (n : ℕ) (plain : Answer) (t : Turn) → payloadByte (t .says) ≡ payloadByte plain → payloadByte plain ≡ payloadByte (saysBefore n plain t)

@@ -3,12 +3,17 @@ use Prim.Native.Nat.{ℕ, _+_}
 use mathlib.Core.List.{List, [], _∷_, _++_, append-assoc, append-nil}
 use mathlib.Core.Path.{_≡_, refl, sym, ap, _∙_}
 use native.Mathlib.Omega.{arith}
-use native.Mathlib.Nat.{zero-add}
 use lib.ListN.{length, length-append}
 use Rattle.streaming.specs.Record.{committedIn}
+use Rattle.streaming.specs.declared.FlatWalker.{FlatWalker}
+use Rattle.account.specs.Statement.{Call}
+use Rattle.account.specs.Runs.{run}
+use Rattle.flat.specs.Flat.{feedOf}
+use Rattle.stands.proofs.Fitness.{flatWalker}
 use Rattle.tally.specs.declared.Tally.{Tally}
 use Rattle.tally.specs.History.{Heard, bytesOf, framingOf, payloadOf, takenAs, total, bytesIn, framingIn, payloadIn, handlesOf, handlesIn, repeats}
 use Rattle.tally.specs.Tally.{capped, lastOf, tallyOf, known, counted, Continues}
+use Rattle.tally.specs.Run.{heardOf, heardIn}
 use Rattle.tally.proofs.Laws.{by-field}
 
 -- ---- one more behind a list
@@ -58,3 +63,15 @@ continued hs h =
 
 pub continues : (t r : Tally) (h : Heard) → r ≡ counted t h → Continues t h r
 continues t r h e hs same = e ∙ ap (λ (x : Tally). counted x h) same ∙ sym (continued hs h)
+
+-- ---- a run
+
+-- what is heard of one more call
+heard-behind : (cs : List Call) (s : FlatWalker) (c : Call) → heardIn s (cs ++ (c ∷ [])) ≡ heardIn s cs ++ (heardOf (run flatWalker s cs) c ∷ [])
+unfolding heardIn
+heard-behind [] s c = refl
+heard-behind (b ∷ cs) s c = ap (λ (hs : List Heard). heardOf s b ∷ hs) (heard-behind cs (feedOf s (b .offset) (b .piece) .state) c)
+
+pub run-continued : (cs : List Call) (s : FlatWalker) (c : Call)
+    → tallyOf (heardIn s (cs ++ (c ∷ []))) ≡ counted (tallyOf (heardIn s cs)) (heardOf (run flatWalker s cs) c)
+run-continued cs s c = ap tallyOf (heard-behind cs s c) ∙ continued (heardIn s cs) (heardOf (run flatWalker s cs) c)

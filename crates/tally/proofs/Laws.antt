@@ -12,7 +12,7 @@ use Rattle.streaming.specs.declared.Failure.{Failure}
 use Rattle.tally.specs.declared.Last.{Last}
 use Rattle.tally.specs.declared.Last.the-variants as last
 use Rattle.tally.specs.declared.Tally.{Tally}
-use Rattle.tally.specs.History.{heard, Taken, notTaken, stepTakes, faultTakes, refusalTakes, accepted, framed, paid, handlesOf, repeats}
+use Rattle.tally.specs.History.{heard, Taken, notTaken, stepTakes, faultTakes, refusalTakes, acceptedBytes, framingBytes, payloadBytes, handlesOf, repeats}
 use Rattle.tally.specs.Tally.{capped, lastOf, known, behind, counted}
 
 -- ---- a count that nothing is added to
@@ -42,8 +42,8 @@ repeats-stay n l h = stays n h ∙ ap (λ (k : ℕ). capped (n + k)) (sym (no-re
 -- ---- a tally, field by field
 
 module _ (t : Tally) (taken : Taken) (n : ℕ) (handles : List ℕ) where
-  pub by-field : (b f p o r : ℕ) (l : Last) → b ≡ capped (t .bytes + accepted taken n) → f ≡ capped (t .framing + framed taken n)
-      → p ≡ capped (t .payload + paid taken n) → o ≡ capped (t .objects + length handles)
+  pub by-field : (b f p o r : ℕ) (l : Last) → b ≡ capped (t .bytes + acceptedBytes taken n) → f ≡ capped (t .framing + framingBytes taken n)
+      → p ≡ capped (t .payload + payloadBytes taken n) → o ≡ capped (t .objects + length handles)
       → r ≡ capped (t .repeats + repeats (known (t .last) ++ handles)) → l ≡ lastOf (known (t .last) ++ handles)
       → _≡_ {A = Tally} (record { bytes = b; framing = f; payload = p; objects = o; repeats = r; last = l }) (behind t taken n handles)
   by-field b f p o r l eb ef ep eo er el = rw (eb, ef, ep, eo, er, el)
@@ -75,5 +75,6 @@ pub by-refusal : (t : Tally) (held : Failure) (n : ℕ) (e e′ : StreamError) (
     → r ≡ behind t (refusalTakes held e) n []
 by-refusal t held n e e′ r same k = k ∙ ap (λ (y : StreamError). behind t (refusalTakes held y) n []) (sym same)
 
-pub by-answer : (t : Tally) (held : Failure) (n : ℕ) (a a′ : Answer) (r : Tally) → a ≡ a′ → r ≡ counted t (heard held a′ n) → r ≡ counted t (heard held a n)
+pub by-answer : (t : Tally) (held : Failure) (n : ℕ) (a a′ : Answer) (r : Tally) → a ≡ a′ → r ≡ counted t (heard held a′ n)
+    → r ≡ counted t (heard held a n)
 by-answer t held n a a′ r same k = k ∙ ap (λ (x : Answer). counted t (heard held x n)) (sym same)

@@ -2,3 +2,11 @@ pub mod Laws
 pub mod Kept
 pub mod Acceptance
 pub mod Even
+pub mod Pieces
+pub mod Objects
+pub mod Sums
+pub mod Payload
+pub mod Limits
+pub mod Computed
+pub mod Useless
+pub mod Main

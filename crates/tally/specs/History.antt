@@ -13,6 +13,7 @@ use Rattle.streaming.specs.declared.Answer.{Answer}
 use Rattle.streaming.specs.declared.Answer.the-variants as answer
 use Rattle.streaming.specs.declared.Failure.{Failure}
 use Rattle.streaming.specs.declared.Failure.the-variants as failure
+use Rattle.rules.specs.Payload.{keptBehind}
 
 -- a call: the failure that was held before it, the answer, and the length of the piece that it brought
 pub record Heard : Type 0 where
@@ -25,7 +26,7 @@ heard held answer length = record { held = held; answer = answer; length = lengt
 
 -- ---- what became of the piece
 
--- none of it was taken, or all of it
+-- none of it was taken, or all of it: as framing, or as payload
 pub data Taken : Type 0 where
   notTaken asFraming asPayload : Taken
 
@@ -36,7 +37,7 @@ stepTakes (step.Section r) = asFraming
 stepTakes (step.Object r) = asFraming
 stepTakes step.Finished = asFraming
 
--- a fault that no call has answered before came with this piece; one that was held is only said again
+-- a fault that was not held before the call came with its piece; one that was held is only said again
 abbrev pub faultTakes : Failure → Taken
 faultTakes failure.None = asFraming
 faultTakes (failure.Held f) = notTaken
@@ -65,29 +66,29 @@ isAccepted asPayload = true
 
 -- ---- bytes of one call
 
-abbrev pub accepted : Taken → ℕ → ℕ
-accepted notTaken n = 0
-accepted asFraming n = n
-accepted asPayload n = n
+abbrev pub acceptedBytes : Taken → ℕ → ℕ
+acceptedBytes notTaken n = 0
+acceptedBytes asFraming n = n
+acceptedBytes asPayload n = n
 
-abbrev pub framed : Taken → ℕ → ℕ
-framed notTaken n = 0
-framed asFraming n = n
-framed asPayload n = 0
+abbrev pub framingBytes : Taken → ℕ → ℕ
+framingBytes notTaken n = 0
+framingBytes asFraming n = n
+framingBytes asPayload n = 0
 
-abbrev pub paid : Taken → ℕ → ℕ
-paid notTaken n = 0
-paid asFraming n = 0
-paid asPayload n = n
+abbrev pub payloadBytes : Taken → ℕ → ℕ
+payloadBytes notTaken n = 0
+payloadBytes asFraming n = 0
+payloadBytes asPayload n = n
 
 abbrev pub bytesOf : Heard → ℕ
-bytesOf h = accepted (takenAs (h .held) (h .answer)) (h .length)
+bytesOf h = acceptedBytes (takenAs (h .held) (h .answer)) (h .length)
 
 abbrev pub framingOf : Heard → ℕ
-framingOf h = framed (takenAs (h .held) (h .answer)) (h .length)
+framingOf h = framingBytes (takenAs (h .held) (h .answer)) (h .length)
 
 abbrev pub payloadOf : Heard → ℕ
-payloadOf h = paid (takenAs (h .held) (h .answer)) (h .length)
+payloadOf h = payloadBytes (takenAs (h .held) (h .answer)) (h .length)
 
 -- ---- bytes of a history
 
@@ -103,6 +104,11 @@ framingIn = total framingOf
 
 abbrev pub payloadIn : List Heard → ℕ
 payloadIn = total payloadOf
+
+-- the payload behind the last commit, of which so much was taken before: that of the unit still open or failed
+unfoldable pub openPayload : (taken : ℕ) → List Heard → ℕ
+openPayload taken [] = taken
+openPayload taken (h ∷ hs) = openPayload (keptBehind (committedIn (h .answer)) (taken + payloadOf h)) hs
 
 -- ---- objects
 

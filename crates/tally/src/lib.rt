@@ -147,8 +147,9 @@ fn repeated(last: Last, handle: u64) -> u64
 fn add(n: u64, more: u64) -> u64
     ensures { λ r. ⌜ r ≡ capped (n + more) ⌝ }
 {
-    if more <= TOP - n {
+    let room = TOP - n;
+    if more <= room {
         return n + more;
     }
-    TOP
+    n + room
 }

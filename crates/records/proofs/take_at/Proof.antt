@@ -1,9 +1,8 @@
 -- `take_at` meets its contract: in the loop the value is the number of the bits that were taken.
 use mathlib.Core.Path.{_≡_, refl, _∙_}
-use Prim.Native.Nat.{ℕ, _+_, _-_, _≤_}
+use Prim.Native.Nat.{_+_, _-_, _≤_}
 use native.Mathlib.Numerals.{add-one}
 use native.Mathlib.Omega.{arith}
-use lib.ListN.{length}
 use borrow.Author.Needs.{needs}
 use Rattle.rules.specs.Prologue.{bitsAt}
 use Rattle.records.proofs.Bits.{bit-lt, bits-room, too-many, too-far, too-few, taken}

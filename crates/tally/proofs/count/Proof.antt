@@ -1,10 +1,5 @@
 -- `count` meets its contract.
-use mathlib.Core.List.{[]}
-use mathlib.Core.Path.{_≡_, sym, ap, _∙_}
-use Rattle.streaming.specs.declared.Answer.{Answer}
-use Rattle.tally.specs.declared.Tally.{Tally}
 use Rattle.tally.specs.History.{heard, handlesOf}
-use Rattle.tally.specs.Tally.{counted}
 use Rattle.tally.proofs.Laws.{by-answer}
 use Rattle.tally.proofs.Kept.{continues}
 use borrow.Author.Needs.{needs}

@@ -19,7 +19,7 @@ module _ (c : lts.Start (at-fault-reads.Asked, at-fault-reads.Learnt) reads.Pre 
       → c .args .t ≡ behind (c .args .t) (refusalTakes (c .args .held) (c .args .e)) (c .args .len) []
   gives-back e same none =
       let fits : Fits (c .args .t) =
-          record { bytes = omega arith; framing = omega arith; payload = omega arith; objects = omega arith; repeats = omega arith } in
+      record { bytes = omega arith; framing = omega arith; payload = omega arith; objects = omega arith; repeats = omega arith } in
       by-refusal (c .args .t) (c .args .held) (c .args .len) _ e _ same
       (untaken (c .args .t) (c .args .len) fits ∙ ap (λ (k : Taken). behind (c .args .t) k (c .args .len) []) (sym none))
 

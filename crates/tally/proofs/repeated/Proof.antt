@@ -1,6 +1,5 @@
 -- `repeated` meets its contract.
-use Prim.Native.Nat.{ℕ}
-use mathlib.Core.Path.{_≡_, refl, ap, sym, _∙_}
+use mathlib.Core.Path.{ap, sym}
 use mathlib.Core.List.{[], _∷_, _++_}
 use Rattle.streaming.specs.Choose.{if_then_else_}
 use Rattle.streaming.proofs.Cases.{cases}
