@@ -45,7 +45,7 @@ fn answer_kind(kind: Kind, line: &str) -> (String, u64) {
     let number = rest.split(' ').next().and_then(|n| n.parse().ok());
     match (word, kind) {
         ("X" | "E", _) => (word.to_string(), number.unwrap_or(0)),
-        ("-" | "I", _) | (_, Kind::Drive | Kind::Replay) => (word.to_string(), 0),
+        ("-" | "I", _) | (_, Kind::Drive | Kind::Once | Kind::Replay) => (word.to_string(), 0),
         _ => ("number".to_string(), 0),
     }
 }

@@ -10,6 +10,7 @@ mod facts;
 mod form;
 mod heads;
 mod inputs;
+mod once;
 mod replay;
 mod run_list;
 mod selftest;
@@ -28,13 +29,13 @@ use std::io::{Read, Write};
 use std::path::Path;
 use std::process::ExitCode;
 
-const USAGE: &str = "usage: oracle table | crc | heads | drive | replay
+const USAGE: &str = "usage: oracle table | crc | heads | drive | once | replay
        oracle gen KIND SEED COUNT DIR
        oracle compare KIND SEED COUNT OURS FOLDER
        oracle facts SEED COUNT MAXBYTES
        oracle run-list whole | stdin | stdout | table
        oracle selftest
-KIND is crc, heads, drive or replay";
+KIND is crc, heads, drive, once or replay";
 
 /// The input forms, each with its answers.
 #[derive(Clone, Copy, PartialEq, Eq)]
@@ -42,6 +43,7 @@ pub enum Kind {
     Crc,
     Heads,
     Drive,
+    Once,
     Replay,
 }
 
@@ -51,6 +53,7 @@ impl Kind {
             "crc" => Some(Self::Crc),
             "heads" => Some(Self::Heads),
             "drive" => Some(Self::Drive),
+            "once" => Some(Self::Once),
             "replay" => Some(Self::Replay),
             _ => None,
         }
@@ -62,6 +65,7 @@ impl Kind {
             Self::Crc => crc_form::answer(input),
             Self::Heads => heads::answer(input),
             Self::Drive => drive::answer(input),
+            Self::Once => once::answer(input),
             Self::Replay => replay::answer(input),
         }
     }

@@ -31,7 +31,7 @@ pub fn input(kind: Kind, seed: u64, file: u64) -> Vec<u8> {
     match kind {
         Kind::Crc => crc::input(&mut rng, file),
         Kind::Heads => heads::input(&mut rng),
-        Kind::Drive => drive::input(&mut rng),
+        Kind::Drive | Kind::Once => drive::input(&mut rng),
         Kind::Replay => replay::input(&mut rng),
     }
 }
