@@ -2,6 +2,8 @@
 use streaming::Ended;
 use streaming::SectionRecord;
 
+pub mod entries;
+
 // The section's record, if the walk came so far.
 pub enum SectionFound {
     None,
