@@ -1,3 +1,4 @@
 pub mod Groups
 pub mod Moves
 pub mod Places
+pub mod Fields

@@ -3,6 +3,8 @@ use streaming::Ended;
 use streaming::SectionRecord;
 
 pub mod entries;
+mod sections;
+mod sums;
 
 // The section's record, if the walk came so far.
 pub enum SectionFound {
