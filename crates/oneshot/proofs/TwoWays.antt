@@ -20,7 +20,7 @@ use Rattle.stands.proofs.Fitness.{begun, flatWalker}
 use Rattle.stands.proofs.Main as Stands
 use Rattle.survey.specs.Survey.{sectionsOf, objectsOf, foundAt, listed, surveyOf}
 use Rattle.survey.specs.declared.Walked.{Walked}
-use Rattle.oneshot.specs.OneShot.{withRoom, objectsFor, frontOf, listAfter, found, readFrom}
+use Rattle.oneshot.specs.OneShot.{withRoom, frontOf, listAfter, found, readFrom}
 use Rattle.oneshot.proofs.Either.{either, walked, objects-walked}
 use Rattle.oneshot.proofs.Shape.{InOrder, in-order}
 

@@ -5,8 +5,8 @@ use mathlib.Core.List.{List, [], _∷_}
 use mathlib.Core.Option.{Option, none, some}
 use mathlib.Core.Path.{_≡_, refl, sym, ap, subst, _∙_}
 use native.Mathlib.Omega.{arith}
-use lib.ListN.{length, getD, take, drop}
-use lib.Dec.{leb, eqb}
+use lib.ListN.{length, getD, drop}
+use lib.Dec.{eqb}
 use borrow.Author.Tests.{eq-eqb, ne-eqb, eqb-true, eqb-false, le-leb}
 use Rattle.streaming.specs.Choose.{if_then_else_}
 use Rattle.streaming.specs.declared.Part.{Part}
@@ -20,17 +20,18 @@ use Rattle.account.proofs.Parts.{part-drop, length-part}
 use Rattle.rules.specs.Header.{mapStart, mapSize, mapEnd, isR2000}
 use Rattle.rules.specs.Source.{Of}
 use Rattle.rules.specs.Entry.{Entry, leads, refused, entryIn, followed, entriesFrom, entriesOf}
-use Rattle.rules.specs.Prologue.{Prologue, prologueOf}
-use Rattle.rules.specs.Object.{Size, sized, unending, Verdict, holds, fails, sizeAt, named, verdict}
-use Rattle.rules.specs.Map.{chunkSize, chunkEntries, chunkFits}
+use Rattle.rules.specs.Prologue.{Prologue}
+use Rattle.rules.specs.Object.{Size, sized, unending, Verdict, sizeAt, objectRecord, named, verdict}
+use Rattle.rules.specs.Map.{chunkSize, chunkEntries}
 use Rattle.rules.specs.PlainList.{Listing, require, sectionThen, verdictThen, sizedThen, objectThen, entriesThen, checkedChunkThen, chunkThen, chunksFrom, plainList}
 use Rattle.rules.proofs.Header.{started}
 use Rattle.rules.proofs.Entry.{Fits, entry-fits, entries-nil, entries-cons}
 use Rattle.rules.proofs.Map.{fits-low, fits-end}
+use Rattle.records.specs.Answer.{headOf}
 use Rattle.survey.specs.Survey.{objectsOf}
 use Rattle.oneshot.specs.declared.steps.Cursor.{Cursor}
 use Rattle.oneshot.specs.declared.steps.Visit.{Visit}
-use Rattle.oneshot.specs.Cursor.{blank, headed, sizedAt, recordAt, firstCursor, openedOf, inHand, nextEntry, visitOf, stepOf, cursorAt, recordOf}
+use Rattle.oneshot.specs.Cursor.{blank, recordOfHead, sizedAt, recordAt, firstCursor, openedOf, inHand, visitOf, stepOf, cursorAt, recordOf}
 
 abbrev objects : Listing → List ObjectRecord
 objects l = objectsOf (l .records)
@@ -75,11 +76,12 @@ module _ (src : List ℕ) where
 
   -- ---- an object, which an entry leads to
 
-  module _ (h : FlatHeader) (handle location : ℕ) (c next : Cursor) (step : stepOf src c ≡ record { object = recordAt (isR2000 h) src handle location; next = next })
+  module _ (h : FlatHeader) (handle location : ℕ) (c next : Cursor)
+      (step : stepOf src c ≡ record { object = recordAt (isR2000 h) src handle location; next = next })
       (l : Listing) (behind : Gives next (objects l)) where
-    gives-named : (size : ℕ) (p : Option Prologue) → recordAt (isR2000 h) src handle location ≡ headed handle location size p
+    gives-named : (size : ℕ) (p : Option Prologue) → recordAt (isR2000 h) src handle location ≡ recordOfHead handle location size (headOf p)
         → Gives c (objects (verdictThen (named handle location size p) l))
-    unfolding named verdictThen objectsOf
+    unfolding named objectRecord verdictThen objectsOf
     gives-named size none e = gives-none c
     gives-named size (some p) e =
         in-both (λ (v : Verdict). Gives c (objects (verdictThen v l))) _

@@ -1,6 +1,6 @@
 -- Document 01's whole case in one call, by computation: with more places than are needed, and with none.
 use Prim.Native.Nat.{ℕ}
-use mathlib.Core.List.{List, [], _∷_}
+use mathlib.Core.List.{[], _∷_}
 use mathlib.Core.Path.{_≡_, refl}
 use Rattle.streaming.specs.declared.ObjectRecord.{ObjectRecord}
 use Rattle.streaming.specs.declared.Part.the-variants.{HeaderVars, Classes}

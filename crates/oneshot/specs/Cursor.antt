@@ -2,7 +2,6 @@
 use Prim.Native.Nat.{ℕ, zero, suc, _+_, _-_}
 use mathlib.Core.Bool.{Bool}
 use mathlib.Core.List.{List}
-use mathlib.Core.Option.{Option, none, some}
 use lib.ListN.{length, take}
 use lib.Dec.{leb, eqb}
 use Rattle.streaming.specs.Choose.{if_then_else_}
@@ -11,9 +10,10 @@ use Rattle.streaming.specs.declared.ObjectRecord.{ObjectRecord}
 use Rattle.account.specs.Statement.{part}
 use Rattle.rules.specs.Header.{mapStart, isR2000}
 use Rattle.rules.specs.Entry.{Entry, leads, refused, entryIn}
-use Rattle.rules.specs.Prologue.{Prologue, prologueOf}
-use Rattle.rules.specs.Object.{Size, sized, unending, sizeAt, objectRecord}
+use Rattle.rules.specs.Prologue.{prologueOf}
+use Rattle.rules.specs.Object.{Size, sized, unending, sizeAt}
 use Rattle.rules.specs.Map.{chunkSize}
+use Rattle.records.specs.Answer.{headOf}
 use Rattle.records.specs.declared.Head.{Head}
 use Rattle.records.specs.declared.Head.the-variants as head
 use Rattle.oneshot.specs.declared.steps.Cursor.{Cursor}
@@ -25,11 +25,7 @@ blank = record { handle = 0; offset = 0; size = 0; «type_code» = 0 }
 
 -- ---- the object that an entry leads to
 
-abbrev pub headed : (handle location size : ℕ) → Option Prologue → ObjectRecord
-headed handle location size none = blank
-headed handle location size (some p) = objectRecord handle location size p
-
--- the same by what `prologue` answers
+-- the record, by what `prologue` says of the data
 abbrev pub recordOfHead : (handle location size : ℕ) → Head → ObjectRecord
 recordOfHead handle location size head.Nothing = blank
 recordOfHead handle location size (head.Read o) = record { handle = handle; offset = location; size = size; «type_code» = o .«type_code» }
@@ -37,13 +33,15 @@ recordOfHead handle location size (head.Read o) = record { handle = handle; offs
 abbrev pub sizedAt : (r2000 : Bool) (src : List ℕ) (handle location : ℕ) → Size → ObjectRecord
 sizedAt r2000 src handle location unending = blank
 sizedAt r2000 src handle location (sized fieldBytes size) =
-    headed handle location size (prologueOf r2000 (take 16 (part src (location + fieldBytes) size)))
+    recordOfHead handle location size (headOf (prologueOf r2000 (take 16 (part src (location + fieldBytes) size))))
 
+-- the object at a location, read as the rules read it, but with no test of its place, its checksum or its handle
 unfoldable pub recordAt : (r2000 : Bool) (src : List ℕ) (handle location : ℕ) → ObjectRecord
 recordAt r2000 src handle location = sizedAt r2000 src handle location (sizeAt src location)
 
 -- ---- one step
 
+-- nothing is opened yet, and the map's first chunk comes next
 abbrev pub firstCursor : FlatHeader → Cursor
 firstCursor h = record { r2000 = isR2000 h; chunk = mapStart h; at = 0; end = 0; handle = 0; location = 0 }
 
@@ -63,6 +61,7 @@ module _ (src : List ℕ) where
   abbrev pub nextEntry : Cursor → Entry
   nextEntry c = entryIn (c .handle) (c .location) (part src (c .at) (c .end - c .at))
 
+  -- an entry leads to its object and to the entry behind it; a refused one nowhere
   unfoldable pub visitOf : Cursor → Entry → Visit
   visitOf c (leads bytes handle location) = record {
     object = recordAt (c .r2000) src handle location;

@@ -1,7 +1,12 @@
 // The one-shot walk: the whole source in hand, one call, and the object records in a list that the caller lends.
 ghost use mathlib.Core.Path.{_≡_};
+ghost use Rattle.oneshot.specs.Cursor.{firstCursor};
 ghost use Rattle.oneshot.specs.OneShot.{withRoom};
+use header::is_r2000;
+use header::map_start;
+use steps::Cursor;
 use streaming::Ended;
+use streaming::FlatHeader;
 use streaming::StreamError;
 use survey::Walked;
 
@@ -20,5 +25,19 @@ fn with_room(places: usize, w: Walked) -> Walked
         count: 0,
         ending: Ended::Refused(StreamError::NoRoom(count as u64)),
         ..w
+    }
+}
+
+// The map's first chunk is still to be opened.
+fn first_of(h: FlatHeader) -> Cursor
+    ensures { λ r. ⌜ r ≡ firstCursor h ⌝ }
+{
+    Cursor {
+        r2000: is_r2000(h),
+        chunk: map_start(h) as usize,
+        at: 0,
+        end: 0,
+        handle: 0,
+        location: 0,
     }
 }

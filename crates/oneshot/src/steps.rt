@@ -1,13 +1,10 @@
 // The entries of a map once more, one at a time, and the record of each one's object.
 ghost use mathlib.Core.Path.{_≡_};
 ghost use Prim.Native.Nat.{_<_, _^_};
-ghost use Rattle.oneshot.specs.Cursor.{firstCursor, openedOf, inHand, stepOf};
+ghost use Rattle.oneshot.specs.Cursor.{openedOf, inHand, stepOf};
 use crate::objects::blank;
 use crate::objects::record_at;
-use header::is_r2000;
-use header::map_start;
 use octets::be16;
-use streaming::FlatHeader;
 use streaming::ObjectRecord;
 use survey::entries::EntryRead;
 use survey::entries::entry_at;
@@ -26,20 +23,6 @@ pub struct Cursor {
 pub struct Visit {
     pub object: ObjectRecord,
     pub next: Cursor,
-}
-
-// The map's first chunk is still to be opened.
-pub fn first_of(h: FlatHeader) -> Cursor
-    ensures { λ r. ⌜ r ≡ firstCursor h ⌝ }
-{
-    Cursor {
-        r2000: is_r2000(h),
-        chunk: map_start(h) as usize,
-        at: 0,
-        end: 0,
-        handle: 0,
-        location: 0,
-    }
 }
 
 // The next chunk, if it lies in the source. Handle and location restart at 0.

@@ -2,8 +2,7 @@
 use Prim.Native.Nat.{ℕ, _+_, _*_, _%_, _≤_, _<_}
 use mathlib.Core.Bool.{Bool}
 use mathlib.Core.List.{List}
-use mathlib.Core.Option.{Option, none, some}
-use mathlib.Core.Path.{_≡_, refl, sym, ap, _∙_}
+use mathlib.Core.Path.{_≡_, sym, ap, _∙_}
 use lib.ListN.{take}
 use borrow.Author.Needs.{needs}
 use borrow.Author.Tests.{lt-ltb, le-ltb}
@@ -11,19 +10,14 @@ use Rattle.streaming.specs.Choose.{if_then_else_}
 use Rattle.streaming.specs.declared.ObjectRecord.{ObjectRecord}
 use Rattle.octets.specs.Octets.{littleEndian}
 use Rattle.account.specs.Statement.{part}
-use Rattle.rules.specs.Prologue.{Prologue, prologueOf}
-use Rattle.rules.specs.Object.{sized, unending, sizeOfWords, sizeAt, objectRecord}
+use Rattle.rules.specs.Prologue.{prologueOf}
+use Rattle.rules.specs.Object.{sized, unending, sizeOfWords, sizeAt}
 use Rattle.records.specs.Answer.{headOf}
 use Rattle.records.specs.declared.Head.{Head}
-use Rattle.oneshot.specs.Cursor.{blank, headed, recordOfHead, sizedAt, recordAt}
+use Rattle.oneshot.specs.Cursor.{blank, recordOfHead, sizedAt, recordAt}
 use Rattle.oneshot.proofs.Reading.{words-at}
 use Rattle.oneshot.proofs.objects.record_at.Statement.{statement}
 use Rattle.oneshot.proofs.objects.record_at.Tie as tie
-
-headed-is : (handle location size : ℕ) (p : Option Prologue) → recordOfHead handle location size (headOf p) ≡ headed handle location size p
-unfolding objectRecord
-headed-is handle location size none = refl
-headed-is handle location size (some p) = refl
 
 module _ (r2000 : Bool) (src : List ℕ) (handle location : ℕ) where
   record-is : (fieldBytes size : ℕ) (head : Head) (r : ObjectRecord) → sizeAt src location ≡ sized fieldBytes size
@@ -31,7 +25,7 @@ module _ (r2000 : Bool) (src : List ℕ) (handle location : ℕ) where
       → r ≡ recordAt r2000 src handle location
   unfolding recordAt
   record-is fieldBytes size head r e h g =
-      g ∙ ap (recordOfHead handle location size) h ∙ headed-is handle location size (prologueOf r2000 (take 16 (part src (location + fieldBytes) size))) ∙ sym (ap (sizedAt r2000 src handle location) e)
+      g ∙ ap (recordOfHead handle location size) h ∙ sym (ap (sizedAt r2000 src handle location) e)
 
   blank-is : sizeAt src location ≡ unending → (r : ObjectRecord) → r ≡ blank → r ≡ recordAt r2000 src handle location
   unfolding recordAt

@@ -1,5 +1,4 @@
 -- `word_at` meets its contract.
-use native.Mathlib.Omega.{arith}
 use borrow.Author.Needs.{needs}
 use Rattle.oneshot.proofs.Reading.{little-two}
 use Rattle.oneshot.proofs.objects.word_at.Statement.{statement}

@@ -1,15 +1,14 @@
 -- `next_of` meets its contract.
-use Prim.Native.Nat.{ℕ, _+_, _-_, _≤_, _<_, _^_}
+use Prim.Native.Nat.{ℕ, _+_, _-_, _<_, _^_}
 use mathlib.Core.List.{List}
-use mathlib.Core.Path.{_≡_, sym, ap, subst, _∙_}
+use mathlib.Core.Path.{_≡_, sym, subst}
 use native.Mathlib.Omega.{arith}
-use lib.ListN.{length, drop, length-take}
+use lib.ListN.{drop, length-take}
 use borrow.Author.Needs.{needs}
 use Rattle.account.specs.Statement.{part}
-use Rattle.rules.specs.Entry.{Entry, leads, refused, entryIn}
+use Rattle.rules.specs.Entry.{leads, refused}
 use Rattle.streaming.specs.declared.ObjectRecord.{ObjectRecord}
 use Rattle.oneshot.specs.declared.steps.Cursor.{Cursor}
-use Rattle.oneshot.specs.declared.steps.Visit.{Visit}
 use Rattle.oneshot.specs.Cursor.{blank, recordAt, inHand, nextEntry, visitOf, stepOf}
 use Rattle.oneshot.proofs.Entries.{leads-is, refused-is, Below, entry-below, leads-inside}
 use Rattle.oneshot.proofs.Near.{hand-near}

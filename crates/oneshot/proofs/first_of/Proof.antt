@@ -1,7 +1,7 @@
 -- `first_of` meets its contract.
 use borrow.Author.Needs.{needs}
-use Rattle.oneshot.proofs.steps.first_of.Statement.{statement}
-use Rattle.oneshot.proofs.steps.first_of.Tie as tie
+use Rattle.oneshot.proofs.first_of.Statement.{statement}
+use Rattle.oneshot.proofs.first_of.Tie as tie
 
 is-r2000-requires : tie.Need-is-r2000-requires
 is-r2000-requires c κs = search needs
