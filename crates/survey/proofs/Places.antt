@@ -5,8 +5,8 @@ use mathlib.Core.List.{List, [], _∷_}
 use mathlib.Core.Path.{_≡_, refl, sym, ap, _∙_}
 use native.Mathlib.Omega.{arith}
 use native.Mathlib.Numerals.{add-one}
-use lib.ListN.{length, take, getD, drop, length-drop, drop-of-length-le}
-use lib.Seq.{take-all, take-nil}
+use lib.ListN.{length, take, getD, drop, length-take, length-drop, drop-of-length-le}
+use lib.Seq.{take-all, take-nil, take-take}
 use lib.Dec.{leb}
 use borrow.Author.Tests.{leb-true, leb-false}
 use Rattle.account.specs.Statement.{part}
@@ -37,3 +37,15 @@ module _ (src : List ℕ) (at end : ℕ) where
 
 pub part-two : (src : List ℕ) (at : ℕ) → at + 2 ≤ length src → part src at 2 ≡ getD src at 0 ∷ getD src (at + 1) 0 ∷ []
 part-two src at h = part-cons src at 1 (omega arith) ∙ rw (part-cons src (suc at) 0 (omega arith), add-one at)
+
+-- ---- the front of a front
+
+pub take-min : (k n : ℕ) (l : List ℕ) → take k (take n l) ≡ take (min n k) l
+take-min k n l = split (leb k n) refl
+  where
+    split : (b : Bool) → leb k n ≡ b → take k (take n l) ≡ take (min n k) l
+    split true e = let h : k ≤ n = leb-true k n e in let m : min n k ≡ k = omega arith in rw m (take-take k n l h)
+    split false e =
+        let h : n < k = leb-false k n e in
+        let m : min n k ≡ n = omega arith in
+        rw m (take-all k (take n l) (simp length-take (omega arith)))
