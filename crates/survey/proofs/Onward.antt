@@ -1,13 +1,11 @@
 -- Laws of what is left of a walk: at a chunk, at an entry of it, and how an object is counted.
 use Prim.Native.Nat.{ℕ, zero, suc, _+_, _-_, _^_, _≤_, _<_}
-use mathlib.Core.Bool.{Bool, true, false}
 use mathlib.Core.List.{List}
 use mathlib.Core.Option.{Option, none, some}
 use mathlib.Core.Path.{_≡_, refl, sym, ap, ap₂, _∙_}
 use native.Mathlib.Omega.{arith}
 use lib.ListN.{length, drop}
 use borrow.Author.Tests.{lt-leb}
-use Rattle.streaming.specs.Choose.{if_then_else_}
 use Rattle.streaming.specs.Record.{object}
 use Rattle.streaming.specs.declared.FlatHeader.{FlatHeader}
 use Rattle.streaming.specs.declared.ObjectRecord.{ObjectRecord}
