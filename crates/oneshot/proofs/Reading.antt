@@ -1,19 +1,17 @@
 -- Numbers and parts read from a source whose end may be near.
-use Prim.Native.Nat.{ℕ, suc, _+_, _-_, _≤_, min}
+use Prim.Native.Nat.{ℕ, _+_, _-_, _≤_, min}
 use mathlib.Core.Bool.{Bool, true, false}
 use mathlib.Core.List.{List, [], _∷_}
 use mathlib.Core.Option.{none}
 use mathlib.Core.Path.{_≡_, refl, sym, ap, _∙_}
-use native.Mathlib.Numerals.{add-one}
 use native.Mathlib.Omega.{arith}
 use lib.ListN.{length, getD, take, drop, length-drop, drop-of-length-le}
 use lib.Dec.{leb}
 use lib.Seq.{take-all, take-nil, take-take, getD-drop, drop-drop}
 use borrow.Author.Tests.{leb-true, leb-false}
-use Rattle.octets.specs.Octets.{littleEndian, bigEndian}
+use Rattle.octets.specs.Octets.{littleEndian}
 use Rattle.streaming.specs.Choose.{if_then_else_}
 use Rattle.account.specs.Statement.{part}
-use Rattle.account.proofs.Parts.{part-cons}
 use Rattle.rules.specs.Prologue.{reading, prologueOf}
 use Rattle.rules.specs.Object.{sizeOfWords, sizeAt}
 use Rattle.rules.proofs.Main.{sixteen-enough}
@@ -27,14 +25,10 @@ little-front [] = refl
 little-front (a ∷ []) = refl
 little-front (a ∷ b ∷ l) = refl
 
-module _ (src : List ℕ) (at : ℕ) where
-  pub little-two : littleEndian (part src at 2) ≡ littleEndian (getD src at 0 ∷ getD src (at + 1) 0 ∷ [])
-  little-two =
-      let z : at + 0 ≡ at = omega arith in
-      little-front (drop at src) ∙ rw (getD-drop at src 0 0, getD-drop at src 1 0, z)
-
-  pub big-two : at + 2 ≤ length src → bigEndian (part src at 2) ≡ bigEndian (getD src at 0 ∷ getD src (at + 1) 0 ∷ [])
-  big-two h = rw (part-cons src at 1 (omega arith), part-cons src (suc at) 0 (omega arith), add-one at)
+pub little-two : (src : List ℕ) (at : ℕ) → littleEndian (part src at 2) ≡ littleEndian (getD src at 0 ∷ getD src (at + 1) 0 ∷ [])
+little-two src at =
+    let z : at + 0 ≡ at = omega arith in
+    little-front (drop at src) ∙ rw (getD-drop at src 0 0, getD-drop at src 1 0, z)
 
 -- ---- the size words
 

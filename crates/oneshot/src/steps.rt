@@ -4,10 +4,10 @@ ghost use Prim.Native.Nat.{_<_, _^_};
 ghost use Rattle.oneshot.specs.Cursor.{openedOf, inHand, stepOf};
 use crate::objects::blank;
 use crate::objects::record_at;
-use octets::be16;
 use streaming::ObjectRecord;
 use survey::entries::EntryRead;
 use survey::entries::entry_at;
+use survey::sums::be16_at;
 
 // Where the filling stands in the map: the place of the next chunk, the entries that are left of the one in hand, and what the last entry led to.
 pub struct Cursor {
@@ -37,7 +37,7 @@ fn opened(src: &[u8], c: Cursor) -> Cursor
     if len - chunk < 2 {
         return c;
     }
-    let size = be16(src[chunk], src[chunk + 1]) as usize;
+    let size = be16_at(src, chunk) as usize;
     if len - chunk < size + 2 {
         return c;
     }

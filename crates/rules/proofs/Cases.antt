@@ -82,10 +82,10 @@ wholeHeader = headerWith (locator 0 70 38) (locator 1 108 38) (locator 2 153 11)
 
 -- ---- a map at 146 whose one entry leads to the last bytes of the source, at 157
 
-abbrev stalling : (lastBytes : List ℕ) → List ℕ
+abbrev pub stalling : (lastBytes : List ℕ) → List ℕ
 stalling lastBytes = front ++ (0x00 ∷ 0x05 ∷ 0x05 ∷ 0x9D ∷ 0x01 ∷ 0x4C ∷ 0xB8 ∷ []) ++ lastChunk ++ lastBytes
 
-abbrev stallingHeader : (length : ℕ) → FlatHeader
+abbrev pub stallingHeader : (length : ℕ) → FlatHeader
 stallingHeader n = headerWith (locator 0 70 38) (locator 1 108 38) (locator 2 146 11) n
 
 -- ---- the whole case with another object, or with another first chunk

@@ -16,7 +16,7 @@ use Rattle.account.proofs.Parts.{part-drop}
 use Rattle.octets.specs.Octets.{littleEndian}
 use Rattle.rules.specs.Header.{isR2000}
 use Rattle.rules.specs.Prologue.{prologueOf}
-use Rattle.rules.specs.Object.{sized, unending, sizeOfWords, sizeAt, mayStart, mayEnd, objectComputed, objectStored, Verdict, fails, named, verdict}
+use Rattle.rules.specs.Object.{sized, sizeOfWords, sizeAt, mayStart, mayEnd, objectComputed, objectStored, Verdict, fails, named, verdict}
 use Rattle.survey.proofs.Places.{take-min}
 use Rattle.rules.specs.PlainList.{Listing, stop, require, verdictThen, sizedThen, lacksSecondWord, objectThen}
 

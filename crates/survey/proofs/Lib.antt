@@ -6,3 +6,4 @@ pub mod InMap
 pub mod AtLocation
 pub mod Onward
 pub mod Listed
+pub mod Main

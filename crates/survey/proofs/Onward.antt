@@ -1,13 +1,11 @@
 -- Laws of what is left of a walk: at a chunk, at an entry of it, and how an object is counted.
 use Prim.Native.Nat.{ℕ, zero, suc, _+_, _-_, _^_, _≤_, _<_}
-use mathlib.Core.Bool.{Bool, true, false}
 use mathlib.Core.List.{List}
 use mathlib.Core.Option.{Option, none, some}
 use mathlib.Core.Path.{_≡_, refl, sym, ap, ap₂, _∙_}
 use native.Mathlib.Omega.{arith}
 use lib.ListN.{length, drop}
 use borrow.Author.Tests.{lt-leb}
-use Rattle.streaming.specs.Choose.{if_then_else_}
 use Rattle.streaming.specs.Record.{object}
 use Rattle.streaming.specs.declared.FlatHeader.{FlatHeader}
 use Rattle.streaming.specs.declared.ObjectRecord.{ObjectRecord}
@@ -87,7 +85,7 @@ refused-told (leads b m l) bytes e = cc
 refused-told (refused b) bytes e = cc
 
 -- a location stays below 2^63
-abbrev NearEntry : Entry → Type 0
+abbrev pub NearEntry : Entry → Type 0
 NearEntry (leads bytes handle location) = location < 2 ^ 63
 NearEntry (refused bytes) = Unit {0}
 
@@ -102,7 +100,7 @@ near-location n handle location bytes none h = tt
 near-location n handle location bytes (some groups) h =
     near-at (n + length groups) handle (moved location (locationDelta groups)) (moved-near location (locationDelta groups) h)
 
-near-handle : (handle location : ℕ) (bytes : List ℕ) (o : Option (List ℕ)) → location < 2 ^ 63 → NearEntry (withHandle handle location bytes o)
+pub near-handle : (handle location : ℕ) (bytes : List ℕ) (o : Option (List ℕ)) → location < 2 ^ 63 → NearEntry (withHandle handle location bytes o)
 unfolding withHandle
 near-handle handle location bytes none h = tt
 near-handle handle location bytes (some groups) h = in-both NearEntry _ (λ e. near-location (length groups) _ location _ _ h) (λ e. tt)

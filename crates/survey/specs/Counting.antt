@@ -3,7 +3,6 @@ use Prim.Native.Nat.{ℕ, _+_, _-_, _^_, _≤_, _<_}
 use mathlib.Core.List.{List}
 use lib.ListN.{length}
 use Rattle.streaming.specs.declared.FlatHeader.{FlatHeader}
-use Rattle.streaming.specs.declared.Asked.{Asked}
 use Rattle.account.specs.Statement.{part, endedBy}
 use Rattle.rules.specs.Header.{mapEnd}
 use Rattle.rules.specs.Entry.{entriesFrom}

@@ -1,7 +1,6 @@
 // An entry of the object map, read from the bytes of its chunk: a handle delta, then a location delta (§23.1).
 ghost use mathlib.Core.Path.{_≡_};
 ghost use Prim.Native.Nat.{_+_, _*_, _-_, _^_, _≤_, _<_, min};
-ghost use mathlib.Core.Bool.{Bool};
 ghost use lib.ListN.{length};
 ghost use Rattle.account.specs.Statement.{part};
 ghost use Rattle.rules.specs.Entry.{deltaIn, handleDelta, magnitude, isBack, signed, moved, withLocation, entryIn};

@@ -26,7 +26,7 @@ mod chunks;
 pub mod entries;
 mod objects;
 mod sections;
-mod sums;
+pub mod sums;
 mod walk;
 
 // The section's record, if the walk came so far.

@@ -86,10 +86,11 @@ pub fn object_at(h: FlatHeader, rows: &[[u16; 256]; 8], src: &[u8], handle: u64,
     if first < 0x8000 {
         return sized_at(h, rows, src, handle, location, 2, first as u32);
     }
-    if h.length < location + 4 {
+    let length = h.length;
+    if length < location + 4 {
         return ObjectRead::Ends(Asked::Demand(Request {
-            offset: h.length,
-            len: location + 4 - h.length,
+            offset: length,
+            len: location + 4 - length,
         }));
     }
     let second = le16_at(src, at + 2);

@@ -1,7 +1,7 @@
 // A section of a source in hand: the header variables (§9) or the classes (§10.1).
 ghost use mathlib.Core.List.{[]};
 ghost use mathlib.Core.Path.{_≡_};
-ghost use Prim.Native.Nat.{_+_, _<_, _≤_, _^_};
+ghost use Prim.Native.Nat.{_+_, _<_, _≤_};
 ghost use lib.ListN.{length, getD};
 ghost use Rattle.crc.specs.Rows.{Table};
 ghost use Rattle.octets.specs.Octets.{same};

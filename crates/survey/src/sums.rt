@@ -1,6 +1,6 @@
 // Numbers and checksums of a source in hand, by their place.
 ghost use mathlib.Core.Path.{_≡_};
-ghost use Prim.Native.Nat.{_+_, _≤_, _<_, _^_};
+ghost use Prim.Native.Nat.{_+_, _≤_};
 ghost use lib.ListN.{length};
 ghost use Rattle.crc.specs.Rows.{Table};
 ghost use Rattle.octets.specs.Octets.{littleEndian, bigEndian};

@@ -1,5 +1,5 @@
 -- `behind_vars` meets its contract.
-use mathlib.Core.Path.{_≡_, sym, ap, _∙_}
+use mathlib.Core.Path.{sym, ap, _∙_}
 use native.Mathlib.Omega.{arith}
 use Rattle.rules.specs.Header.{mapEnd}
 use Rattle.rules.proofs.Header.{started}

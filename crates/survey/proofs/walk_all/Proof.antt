@@ -1,5 +1,5 @@
 -- `walk_all` meets its contract.
-use mathlib.Core.Path.{_≡_, sym, ap, _∙_}
+use mathlib.Core.Path.{sym, ap, _∙_}
 use native.Mathlib.Omega.{arith}
 use Rattle.rules.specs.PlainList.{plainList}
 use Rattle.rules.proofs.Header.{started}

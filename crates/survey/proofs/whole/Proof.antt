@@ -1,7 +1,5 @@
 -- `whole` meets its contract: the source's length is held against the header's.
-use native.Mathlib.Omega.{arith}
-use mathlib.Core.Path.{_≡_, sym, _∙_}
-use lib.ListN.{length}
+use mathlib.Core.Path.{_∙_}
 use borrow.Author.Tests.{lt-ltb, le-ltb}
 use Rattle.streaming.specs.Choose.{if_then_else_}
 use Rattle.survey.specs.Survey.{lengthRefusal}

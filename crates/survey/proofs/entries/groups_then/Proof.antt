@@ -1,9 +1,8 @@
 -- `groups_then` meets its contract: the value is that of the groups behind.
 use Prim.Native.Nat.{_-_, _≤_}
-use mathlib.Core.Path.{_≡_, refl, sym, _∙_}
+use mathlib.Core.Path.{_≡_, sym}
 use native.Mathlib.Omega.{arith}
 use lib.ListN.{length, drop}
-use lib.Seq.{drop-length}
 use borrow.Author.Needs.{needs}
 use Rattle.survey.specs.Entries.{groupsThen}
 use Rattle.survey.proofs.Groups.{groups-room, groups-next, groups-end}

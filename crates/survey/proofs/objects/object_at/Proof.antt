@@ -1,5 +1,4 @@
 -- `object_at` meets its contract.
-use Prim.Native.Nat.{_+_, _≤_}
 use mathlib.Core.Bool.{true}
 use mathlib.Core.Path.{_≡_, sym, ap, _∙_}
 use native.Mathlib.Omega.{arith}
@@ -42,18 +41,18 @@ returns-2 c =
 add-if3 : tie.Need-add-if3
 add-if3 c = search needs
 
-add-t15 : tie.Need-add-t15
-add-t15 c = search needs
+add-t16 : tie.Need-add-t16
+add-t16 c = search needs
 
-sub-t16 : tie.Need-sub-t16
-sub-t16 c = search needs
+sub-t17 : tie.Need-sub-t17
+sub-t17 c = search needs
 
 returns-3 : tie.Need-returns-3
 returns-3 c =
-    let l = c .before .before .before in
+    let l = c .before in
     let e = l .before .before in
     let a = e .before .before .before .args in λ rest.
-    stalls (a .h) (a .src .now) (a .handle) (a .location) rest (starts e) _ (l .before .le16-at .ensures) (l .if2 .left) (c .before .if3 .taken)
+    stalls (a .h) (a .src .now) (a .handle) (a .location) rest (starts e) _ (l .before .le16-at .ensures) (l .if2 .left) (c .if3 .taken)
 
 add-le16-at : tie.Need-add-le16-at
 add-le16-at c = search needs
@@ -67,7 +66,7 @@ broken-requires-2 c κs = search needs
 returns-4 : tie.Need-returns-4
 returns-4 c =
     let i = c .before .before .before in
-    let l = i .before .before in
+    let l = i .before in
     let e = l .before .before in
     let a = e .before .before .before .args in
     λ rest. endless (a .h) (a .src .now) (a .handle) (a .location) rest (starts e) _ (l .before .le16-at .ensures) (l .if2 .left) (i .if3 .left) (e .before .before .before .pre .1)
@@ -91,7 +90,7 @@ sized-at-requires-2 c κs = search needs
 returns-5 : tie.Need-returns-5
 returns-5 c =
     let i = c .before .before .before in
-    let l = i .before .before in
+    let l = i .before in
     let e = l .before .before in
     let a = e .before .before .before .args in λ rest.
     two-words (a .h) (a .src .now) (a .handle) (a .location) rest (starts e) _ (l .before .le16-at .ensures) (l .if2 .left) (i .if3 .left) (e .before .before .before .pre .1)
@@ -109,8 +108,8 @@ object-at-spec =
     sized-at-requires
     returns-2
     add-if3
-    add-t15
-    sub-t16
+    add-t16
+    sub-t17
     returns-3
     add-le16-at
     le16-at-requires-2

@@ -1,6 +1,5 @@
 -- `sentinel_at` meets its contract.
-use Prim.Native.Nat.{_+_, _-_}
-use mathlib.Core.Path.{_≡_, _∙_}
+use mathlib.Core.Path.{_≡_}
 use native.Mathlib.Omega.{arith}
 use native.Mathlib.Nat.{add-sub-cancel-left}
 use lib.ListN.{length}

@@ -1,5 +1,4 @@
 -- `be16_at` meets its contract.
-use mathlib.Core.Path.{_∙_}
 use native.Mathlib.Omega.{arith}
 use Rattle.survey.proofs.Places.{part-two}
 use borrow.Author.Needs.{needs}

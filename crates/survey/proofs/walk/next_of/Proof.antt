@@ -3,7 +3,6 @@ use Prim.Native.Nat.{_+_, _-_, _<_, _^_, _≤_}
 use mathlib.Core.Path.{_≡_, sym, ap, _∙_}
 use native.Mathlib.Omega.{arith}
 use Rattle.account.specs.Statement.{part}
-use lib.ListN.{length}
 use Rattle.rules.specs.Entry.{leads, refused, entryIn}
 use Rattle.rules.specs.PlainList.{stop}
 use Rattle.survey.specs.Counting.{counted}
