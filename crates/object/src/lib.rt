@@ -19,6 +19,7 @@ use streaming::Request;
 use streaming::Stage;
 use streaming::Step;
 use streaming::fell;
+use streaming::go_on;
 
 pub mod fit;
 mod verdict;
@@ -106,15 +107,7 @@ fn feed_word(s: FlatWalker, piece: &[u8]) -> Fed
     if done % 2 == 0 {
         return words::settle_word(s, done, crc, field, words::word_in(field));
     }
-    Fed {
-        answer: Answer::Step(Step::Framing),
-        state: FlatWalker {
-            done: done,
-            crc: crc,
-            field: field,
-            ..s
-        },
-    }
+    go_on(s, done, s.size, crc, field)
 }
 
 // The first 16 bytes of the data, with those that a piece at a place in it has.
@@ -165,14 +158,7 @@ fn feed_object_crc(s: FlatWalker, piece: &[u8]) -> Fed
     if done == data_end + 2 {
         return verdict::settle_object_crc(s, field, words::word_in(field));
     }
-    Fed {
-        answer: Answer::Step(Step::Framing),
-        state: FlatWalker {
-            done: done,
-            field: field,
-            ..s
-        },
-    }
+    go_on(s, done, s.size, s.crc, field)
 }
 
 // A piece of what is asked for in an object.

@@ -18,6 +18,7 @@ use streaming::SectionRecord;
 use streaming::Stage;
 use streaming::Step;
 use streaming::fell;
+use streaming::go_on;
 
 // The size is whole: with the frame it has to be the locator's.
 pub fn settle_section_size(s: FlatWalker, crc: u16, field: [u8; 4], size: u32) -> Fed
@@ -26,16 +27,7 @@ pub fn settle_section_size(s: FlatWalker, crc: u16, field: [u8; 4], size: u32) -
     let g = s.stage;
     let l = section(s);
     if FRAME + size as u64 == l.size as u64 {
-        return Fed {
-            answer: Answer::Step(Step::Framing),
-            state: FlatWalker {
-                done: 20,
-                size: size,
-                crc: crc,
-                field: field,
-                ..s
-            },
-        };
+        return go_on(s, 20, size, crc, field);
     }
     fell(Fault::SectionSize(part_number(g)), s)
 }
@@ -47,14 +39,7 @@ pub fn settle_section_crc(s: FlatWalker, field: [u8; 4], stored: u16) -> Fed
 {
     let g = s.stage;
     if stored == s.crc {
-        return Fed {
-            answer: Answer::Step(Step::Framing),
-            state: FlatWalker {
-                done: 22 + s.size,
-                field: field,
-                ..s
-            },
-        };
+        return go_on(s, 22 + s.size, s.size, s.crc, field);
     }
     fell(
         Fault::SectionCrc {

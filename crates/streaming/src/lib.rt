@@ -1,6 +1,6 @@
 // The types of the walk, with the Rust's names where a thing is the Rust's (src/streaming/mod.rs and flat.rs).
 ghost use mathlib.Core.Path.{_≡_};
-ghost use Rattle.streaming.specs.State.{fell as State·fell};
+ghost use Rattle.streaming.specs.State.{goesOn, fell as State·fell};
 
 // A section locator.
 pub struct Locator {
@@ -188,6 +188,22 @@ pub struct Started {
 pub struct Fed {
     pub answer: Answer,
     pub state: FlatWalker,
+}
+
+// The unit in hand goes on: so much of it is done, with this size, this checksum so far and these bytes of a partial number.
+pub fn go_on(s: FlatWalker, done: u32, size: u32, crc: u16, field: [u8; 4]) -> Fed
+    ensures { λ r. ⌜ r ≡ goesOn s done size crc field ⌝ }
+{
+    Fed {
+        answer: Answer::Step(Step::Framing),
+        state: FlatWalker {
+            done: done,
+            size: size,
+            crc: crc,
+            field: field,
+            ..s
+        },
+    }
 }
 
 // A fault is answered and held.

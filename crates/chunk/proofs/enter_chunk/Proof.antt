@@ -6,12 +6,6 @@ use borrow.Author.Needs.{needs}
 use Rattle.chunk.proofs.enter_chunk.Statement.{statement}
 use Rattle.chunk.proofs.enter_chunk.Tie as tie
 
-map-end-requires : tie.Need-map-end-requires
-map-end-requires c κs = search needs
-
-add-if1 : tie.Need-add-if1
-add-if1 c = search needs
-
 returns : tie.Need-returns
 unfolding enterChunk if_then_else_
 returns c = rw (← c .before .before .before .map-end .ensures .0) (search cases)
@@ -21,4 +15,5 @@ unfolding enterChunk if_then_else_
 returns-2 c = rw (← c .before .before .before .before .before .before .before .map-end .ensures .0) (search cases)
 
 pub enter-chunk-spec : {M : Type 1} → statement M
-enter-chunk-spec = tie.close (tie.spec map-end-requires add-if1 returns returns-2)
+enter-chunk-spec =
+    tie.close (tie.spec (search needs) (search needs) returns returns-2)

@@ -6,15 +6,6 @@ use Rattle.section.specs.Section.{enterSection}
 use Rattle.section.proofs.enter_section.Statement.{statement}
 use Rattle.section.proofs.enter_section.Tie as tie
 
-part-number-requires : tie.Need-part-number-requires
-part-number-requires c κs = search needs
-
-locator-requires : tie.Need-locator-requires
-locator-requires c κs = search needs
-
-cast-if1 : tie.Need-cast-if1
-cast-if1 c = search needs
-
 returns : tie.Need-returns
 unfolding enterSection if_then_else_
 returns c =
@@ -29,4 +20,4 @@ returns-2 c =
 
 pub enter-section-spec : {M : Type 1} → statement M
 enter-section-spec =
-    tie.close (tie.spec part-number-requires locator-requires cast-if1 returns returns-2)
+    tie.close (tie.spec (search needs) (search needs) (search needs) returns returns-2)

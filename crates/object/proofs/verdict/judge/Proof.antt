@@ -8,22 +8,13 @@ use borrow.Author.Needs.{needs}
 use Rattle.object.proofs.verdict.judge.Statement.{statement}
 use Rattle.object.proofs.verdict.judge.Tie as tie
 
-opening-requires : tie.Need-opening-requires
-opening-requires c κs = search needs
-
-enum-told : tie.Need-enum-told
-enum-told c = search needs
-
-enum-known-o : tie.Need-enum-known-o
-enum-known-o c = search needs
-
 returns : tie.Need-returns
 unfolding named objectRecord if_then_else_
 returns c =
     let asked = c .before .before .before .before .before .before in
     rw (
       opening-is (keptPrologue (asked .before .before .args .s)) (asked .opening .ensures) (c .before .before .before .before .o .given .1),
-      eq-eqb _ _ (c .if1 .taken)
+      eq-eqb _ _ (c .if1 .taken),
     )
 
 returns-2 : tie.Need-returns-2
@@ -36,9 +27,9 @@ returns-3 c =
     let asked = c .before .before .before .before .before .before in
     rw (
       opening-is (keptPrologue (asked .before .before .args .s)) (asked .opening .ensures) (c .before .before .before .before .o .given .1),
-      ne-eqb _ _ (c .if1 .left)
+      ne-eqb _ _ (c .if1 .left),
     )
 
 pub judge-spec : {M : Type 1} → statement M
 judge-spec =
-    tie.close (tie.spec opening-requires enum-told enum-known-o returns returns-2 returns-3)
+    tie.close (tie.spec (search needs) (search needs) (search needs) returns returns-2 returns-3)
