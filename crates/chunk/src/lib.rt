@@ -6,7 +6,6 @@ ghost use lib.ListN.{length};
 ghost use Rattle.chunk.specs.Chunk.{enterChunk, requestChunk};
 ghost use Rattle.chunk.specs.Chunk.{feedChunkSize, feedChunkEntries, feedChunkCrc, feedChunk};
 ghost use Rattle.chunk.specs.Fit.{noObject, noEntry, chunkDone, fitChunk, inChunk, FitChunk, InChunk};
-use streaming::Failure;
 use streaming::Fault;
 use streaming::Fed;
 use streaming::FlatHeader;
@@ -14,6 +13,7 @@ use streaming::FlatWalker;
 use streaming::MapCursor;
 use streaming::Request;
 use streaming::Stage;
+use streaming::failing;
 use streaming::go_on;
 
 mod settle;
@@ -48,10 +48,7 @@ pub fn enter_chunk(s: FlatWalker, chunk: u64) -> FlatWalker
     if chunk + 4 <= end {
         return t;
     }
-    FlatWalker {
-        failure: Failure::Held(Fault::MapChunk(chunk)),
-        ..t
-    }
+    failing(t, Fault::MapChunk(chunk))
 }
 
 // The demand: what is left of the size, of the entries or of the checksum.
@@ -99,8 +96,10 @@ fn feed_chunk_entries(s: FlatWalker, piece: &[u8]) -> Fed
     requires { ⌜ FitChunk s × (s .done + length (now piece) ≤ s .size) ⌝ }
     ensures { λ r. ⌜ r ≡ feedChunkEntries s (now (piece .entry)) ⌝ }
 {
+    let done = s.done + piece.len() as u32;
+    let crc = crc::crc8(s.crc, piece);
     let field = s.field;
-    go_on(s, s.done + piece.len() as u32, s.size, crc::crc8(s.crc, piece), field)
+    go_on(s, done, s.size, crc, field)
 }
 
 // A piece of the checksum.

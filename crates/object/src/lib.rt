@@ -9,7 +9,6 @@ ghost use Rattle.object.specs.Fit.{FitObject};
 use header::header_end;
 use header::map_end;
 use header::map_start;
-use streaming::Answer;
 use streaming::Fault;
 use streaming::Fed;
 use streaming::FlatHeader;
@@ -20,6 +19,9 @@ use streaming::Stage;
 use streaming::Step;
 use streaming::fell;
 use streaming::go_on;
+use streaming::in_unit;
+use streaming::stepped;
+use streaming::with_object;
 
 pub mod fit;
 mod verdict;
@@ -44,19 +46,10 @@ pub fn enter_object(s: FlatWalker, location: u64) -> Fed
 {
     let h = s.header;
     if may_start(h, location) {
-        return Fed {
-            answer: Answer::Step(Step::Framing),
-            state: FlatWalker {
-                stage: Stage::Object,
-                done: 0,
-                size: 0,
-                crc: 0xc0c1,
-                object: location,
-                ms_len: 0,
-                words: 0,
-                ..s
-            },
-        };
+        let head = s.head;
+        let field = s.field;
+        let t = in_unit(s, Stage::Object, 0, 0, 0xc0c1, field);
+        return stepped(Step::Framing, with_object(t, head, location, 0, 0));
     }
     let m = s.map;
     fell(
@@ -135,15 +128,14 @@ fn feed_object_data(s: FlatWalker, piece: &[u8]) -> Fed
     let at = s.done - s.ms_len as u32;
     let head = s.head;
     let head = kept(head, at as usize, piece);
-    Fed {
-        answer: Answer::Step(Step::Payload(Part::Object)),
-        state: FlatWalker {
-            done: s.done + piece.len() as u32,
-            crc: crc,
-            head: head,
-            ..s
-        },
-    }
+    let field = s.field;
+    let done = s.done + piece.len() as u32;
+    let g = s.stage;
+    let t = in_unit(s, g, done, s.size, crc, field);
+    stepped(
+        Step::Payload(Part::Object),
+        with_object(t, head, s.object, s.ms_len, s.words),
+    )
 }
 
 // A piece of the checksum.

@@ -17,13 +17,14 @@ use crc::crc8;
 use octets::copy_in;
 use octets::le16;
 use octets::le32;
-use streaming::Answer;
 use streaming::Fault;
 use streaming::Fed;
 use streaming::FlatWalker;
 use streaming::Step;
 use streaming::fell;
 use streaming::go_on;
+use streaming::in_unit;
+use streaming::stepped;
 
 // A piece of the start sentinel, which is compared piece by piece.
 pub fn feed_section_start(s: FlatWalker, piece: &[u8]) -> Fed
@@ -62,14 +63,13 @@ pub fn feed_section_data(s: FlatWalker, piece: &[u8]) -> Fed
     ensures { λ r. ⌜ r ≡ feedSectionData s (now (piece .entry)) ⌝ }
 {
     let g = s.stage;
-    Fed {
-        answer: Answer::Step(Step::Payload(part_of(g))),
-        state: FlatWalker {
-            done: s.done + piece.len() as u32,
-            crc: crc8(s.crc, piece),
-            ..s
-        },
-    }
+    let field = s.field;
+    let done = s.done + piece.len() as u32;
+    let crc = crc8(s.crc, piece);
+    stepped(
+        Step::Payload(part_of(g)),
+        in_unit(s, g, done, s.size, crc, field),
+    )
 }
 
 // A piece of the checksum.

@@ -10,7 +10,6 @@ use crate::hand::part_of;
 use crate::hand::section;
 use chunk::enter_chunk;
 use header::map_start;
-use streaming::Answer;
 use streaming::Fault;
 use streaming::Fed;
 use streaming::FlatWalker;
@@ -19,6 +18,7 @@ use streaming::Stage;
 use streaming::Step;
 use streaming::fell;
 use streaming::go_on;
+use streaming::stepped;
 
 // The size is whole: with the frame it has to be the locator's.
 pub fn settle_section_size(s: FlatWalker, crc: u16, field: [u8; 4], size: u32) -> Fed
@@ -76,8 +76,5 @@ pub fn settle_section(s: FlatWalker) -> Fed
         data_offset: l.offset as u64 + 20,
         size: s.size,
     };
-    Fed {
-        answer: Answer::Step(Step::Section(record)),
-        state: enter_next(g, s),
-    }
+    stepped(Step::Section(record), enter_next(g, s))
 }

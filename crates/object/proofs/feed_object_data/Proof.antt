@@ -6,17 +6,19 @@ use borrow.Author.Needs.{needs}
 use Rattle.object.proofs.feed_object_data.Statement.{statement}
 use Rattle.object.proofs.feed_object_data.Tie as tie
 
-add-t12 : tie.Need-add-t12
-add-t12 c =
-    let a = c .before .before .before .before .before .before .before in
+add-done : tie.Need-add-done
+add-done c =
+    let a = c .before .before .before .before .before .before .before .before in
     omega (arith, a .pre .2, span-small _ (a .pre .0))
 
 returns : tie.Need-returns
 unfolding feedObjectData
 returns c =
-    let at = c .before .before .before .before in
+    let at = c .before .before .before .before .before in
     rw (← at .before .before .before .before .crc8 .ensures, ← at .kept .ensures)
+    (rw (c .before .with-object .ensures, c .before .before .in-unit .ensures) at (c .stepped .ensures))
 
 pub feed-object-data-spec : {M : Type 1} → statement M
 feed-object-data-spec =
-    tie.close (tie.spec (search needs) (search needs) (search needs) (search needs) (search needs) (search needs) add-t12 returns)
+    tie.close (tie.spec (search needs) (search needs) (search needs) (search needs) (search needs) (search needs) add-done (search needs)
+    (search needs) (search needs) returns)

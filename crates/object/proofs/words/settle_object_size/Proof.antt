@@ -18,6 +18,7 @@ returns-2 c =
     let asked = c .before .before .before .before .before in
     let some : 0 < asked .before .before .before .before .before .args .size = omega arith in
     rw (lt-ltb _ _ some, ← asked .may-end .ensures, c .before .before .before .before .if2 .taken)
+    (rw (c .before .with-object .ensures) at (c .go-on .ensures))
 
 returns-3 : tie.Need-returns-3
 unfolding settleObjectSize if_then_else_
@@ -28,5 +29,5 @@ returns-3 c =
 
 pub settle-object-size-spec : {M : Type 1} → statement M
 settle-object-size-spec =
-    tie.close (tie.spec (search needs) returns (search needs) (search needs) (search needs) (search needs) (search needs) (search needs) returns-2
-    (search needs) returns-3)
+    tie.close (tie.spec (search needs) returns (search needs) (search needs) (search needs) (search needs) (search needs) (search needs)
+    (search needs) (search needs) returns-2 (search needs) returns-3)

@@ -18,7 +18,7 @@ returns-2 c =
       le-ltb _ 0x8000 (tested .before .before .if1 .left),
       ← tested .before .before .before .with-word .ensures,
       eq-eqb _ 0 (tested .if2 .taken),
-    )
+    ) (rw (c .before .with-object .ensures) at (c .go-on .ensures))
 
 returns-3 : tie.Need-returns-3
 unfolding settleWord if_then_else_
@@ -26,4 +26,4 @@ returns-3 c = rw (le-ltb _ 0x8000 (c .before .before .before .before .if1 .left)
 
 pub settle-word-spec : {M : Type 1} → statement M
 settle-word-spec =
-    tie.close (tie.spec (search needs) (λ c κs. search needs) returns returns-2 (search needs) returns-3)
+    tie.close (tie.spec (search needs) (λ c κs. search needs) returns (search needs) (search needs) returns-2 (search needs) returns-3)

@@ -11,4 +11,4 @@ returns c = cc
 
 pub settle-section-spec : {M : Type 1} → statement M
 settle-section-spec =
-    tie.close (tie.spec (search needs) (search needs) (search needs) (search needs) (search needs) returns)
+    tie.close (tie.spec (search needs) (search needs) (search needs) (search needs) (search needs) (search needs) returns)
