@@ -7,7 +7,7 @@ use lib.Dec.{ltb, leb, eqb}
 use Rattle.crc.specs.Crc.{crcOf}
 use Rattle.octets.specs.Octets.{bigEndian}
 use Rattle.streaming.specs.Choose.{if_then_else_}
-use Rattle.streaming.specs.State.{inUnit, withObject, withMap, failing, atChunk, atEntry, stepped, fell}
+use Rattle.streaming.specs.State.{inUnit, withObject, withMap, failing, atChunk, atEntry, stepped, goesOn, fell}
 use Rattle.streaming.specs.declared.Request.{Request}
 use Rattle.streaming.specs.declared.Step.the-variants as step
 use Rattle.streaming.specs.declared.Fault.the-variants as fault
@@ -43,7 +43,7 @@ module _ (s : FlatWalker) where
   -- the size is whole
   unfoldable pub settleChunkSize : (field : List ℕ) (size : ℕ) → Fed
   settleChunkSize field size =
-      if chunkFits (s .header) (s .map .chunk) size then stepped step.Framing (inUnit s (s .stage) 2 size (checksum (take 2 field)) field)
+      if chunkFits (s .header) (s .map .chunk) size then goesOn s 2 size (checksum (take 2 field)) field
       else fell (fault.MapChunk (s .map .chunk)) s
 
   -- the checksum holds: the walk is finished, or goes on with the entries
@@ -64,16 +64,16 @@ module _ (s : FlatWalker) where
     feedChunkSize =
         let field = sets (s .field) (s .done) piece in
         if eqb (s .done + length piece) 2 then settleChunkSize field (bigEndian (take 2 field))
-        else stepped step.Framing (inUnit s (s .stage) (s .done + length piece) (s .size) (s .crc) field)
+        else goesOn s (s .done + length piece) (s .size) (s .crc) field
 
     unfoldable pub feedChunkEntries : Fed
-    feedChunkEntries = stepped step.Framing (inUnit s (s .stage) (s .done + length piece) (s .size) (crcOf (s .crc) piece) (s .field))
+    feedChunkEntries = goesOn s (s .done + length piece) (s .size) (crcOf (s .crc) piece) (s .field)
 
     unfoldable pub feedChunkCrc : Fed
     feedChunkCrc =
         let field = sets (s .field) (s .done - s .size) piece in
         if eqb (s .done + length piece) (s .size + 2) then settleChunkCrc field (bigEndian (take 2 field))
-        else stepped step.Framing (inUnit s (s .stage) (s .done + length piece) (s .size) (s .crc) field)
+        else goesOn s (s .done + length piece) (s .size) (s .crc) field
 
     unfoldable pub feedChunk : Fed
     feedChunk = if ltb (s .done) 2 then feedChunkSize else if ltb (s .done) (s .size) then feedChunkEntries else feedChunkCrc

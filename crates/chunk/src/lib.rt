@@ -6,8 +6,6 @@ ghost use lib.ListN.{length};
 ghost use Rattle.chunk.specs.Chunk.{enterChunk, requestChunk};
 ghost use Rattle.chunk.specs.Chunk.{feedChunkSize, feedChunkEntries, feedChunkCrc, feedChunk};
 ghost use Rattle.chunk.specs.Fit.{noObject, noEntry, chunkDone, fitChunk, inChunk, FitChunk, InChunk};
-use streaming::Answer;
-use streaming::Failure;
 use streaming::Fault;
 use streaming::Fed;
 use streaming::FlatHeader;
@@ -15,7 +13,8 @@ use streaming::FlatWalker;
 use streaming::MapCursor;
 use streaming::Request;
 use streaming::Stage;
-use streaming::Step;
+use streaming::failing;
+use streaming::go_on;
 
 mod settle;
 
@@ -49,10 +48,7 @@ pub fn enter_chunk(s: FlatWalker, chunk: u64) -> FlatWalker
     if chunk + 4 <= end {
         return t;
     }
-    FlatWalker {
-        failure: Failure::Held(Fault::MapChunk(chunk)),
-        ..t
-    }
+    failing(t, Fault::MapChunk(chunk))
 }
 
 // The demand: what is left of the size, of the entries or of the checksum.
@@ -92,14 +88,7 @@ fn feed_chunk_size(s: FlatWalker, piece: &[u8]) -> Fed
     if done == 2 {
         return settle::settle_chunk_size(s, field, settle::number_in(field) as u32);
     }
-    Fed {
-        answer: Answer::Step(Step::Framing),
-        state: FlatWalker {
-            done: done,
-            field: field,
-            ..s
-        },
-    }
+    go_on(s, done, s.size, s.crc, field)
 }
 
 // A piece of the entries, which are only summed until the checksum holds.
@@ -107,15 +96,10 @@ fn feed_chunk_entries(s: FlatWalker, piece: &[u8]) -> Fed
     requires { ⌜ FitChunk s × (s .done + length (now piece) ≤ s .size) ⌝ }
     ensures { λ r. ⌜ r ≡ feedChunkEntries s (now (piece .entry)) ⌝ }
 {
+    let done = s.done + piece.len() as u32;
     let crc = crc::crc8(s.crc, piece);
-    Fed {
-        answer: Answer::Step(Step::Framing),
-        state: FlatWalker {
-            done: s.done + piece.len() as u32,
-            crc: crc,
-            ..s
-        },
-    }
+    let field = s.field;
+    go_on(s, done, s.size, crc, field)
 }
 
 // A piece of the checksum.
@@ -129,14 +113,7 @@ fn feed_chunk_crc(s: FlatWalker, piece: &[u8]) -> Fed
     if done == s.size + 2 {
         return settle::settle_chunk_crc(s, field, settle::number_in(field));
     }
-    Fed {
-        answer: Answer::Step(Step::Framing),
-        state: FlatWalker {
-            done: done,
-            field: field,
-            ..s
-        },
-    }
+    go_on(s, done, s.size, s.crc, field)
 }
 
 // A piece of what is asked for.

@@ -12,6 +12,7 @@ use streaming::MapCursor;
 use streaming::Stage;
 use streaming::Step;
 use streaming::fell;
+use streaming::go_on;
 
 // The number in the first two bytes of a field, highest byte first.
 pub fn number_in(field: [u8; 4]) -> u16
@@ -29,16 +30,7 @@ pub fn settle_chunk_size(s: FlatWalker, field: [u8; 4], size: u32) -> Fed
     let end = header::map_end(s.header);
     if (2 <= size) & (size <= 2034) & (m.chunk + size as u64 + 2 <= end) {
         let crc = crc::crc8(0xc0c1, &field[0..2]);
-        return Fed {
-            answer: Answer::Step(Step::Framing),
-            state: FlatWalker {
-                done: 2,
-                size: size,
-                crc: crc,
-                field: field,
-                ..s
-            },
-        };
+        return go_on(s, 2, size, crc, field);
     }
     fell(Fault::MapChunk(m.chunk), s)
 }

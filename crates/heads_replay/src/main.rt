@@ -1,27 +1,25 @@
 // Answers heads of records, so that the answers can be compared with the Rust's (oracle/README.md has the form `heads`).
 // An operation is a format (0 R14, 1 R2000), a length up to 16 and that many bytes; its answer `type handle`, or `-` for none.
-ghost use Prim.Native.Nat.{_+_, _≤_};
+ghost use Prim.Native.Nat.{_≤_};
 ghost use lib.ListN.{length};
 
 fn wide(b: u8) -> usize {
     b as usize
 }
 
-// The bytes of the operation at a place, or 0 where it is malformed.
-fn size_at(s: &[u8], at: usize) -> usize
-    requires { ⌜ at ≤ length (now s) ⌝ }
-    ensures { λ r. ⌜ at + r ≤ length (now (s .entry)) ⌝ }
+// The bytes of the operation that begins s, or 0 where it is malformed.
+fn size(s: &[u8]) -> usize
+    ensures { λ r. ⌜ r ≤ length (now (s .entry)) ⌝ }
 {
-    let left = s.len() - at;
-    if left < 2 {
+    if s.len() < 2 {
         return 0;
     }
-    let format = s[at];
-    let n = wide(s[at + 1]);
+    let format = s[0];
+    let n = wide(s[1]);
     if (format > 1) | (n > 16) {
         return 0;
     }
-    if left - 2 < n { 0 } else { 2 + n }
+    if s.len() - 2 < n { 0 } else { 2 + n }
 }
 
 fn print(head: records::Head) {
@@ -53,14 +51,14 @@ fn answer(op: &[u8]) -> records::Head {
 fn go_through(s: &[u8], answering: bool) -> bool {
     let mut at = 0;
     while at < s.len() {
-        let size = size_at(s, at);
-        if size == 0 {
+        let n = size(&s[at..]);
+        if n == 0 {
             return false;
         }
         if answering {
-            print(answer(&s[at..at + size]));
+            print(answer(&s[at..at + n]));
         }
-        at += size;
+        at += n;
     }
     true
 }
@@ -68,13 +66,9 @@ fn go_through(s: &[u8], answering: bool) -> bool {
 fn main() {
     let mut input = io::large_buffer();
     let n = io::read_full(0, &mut input);
-    if n > 60000 {
-        io::write_all(1, b"I\n");
+    if (n <= 60000) & go_through(&input[..n], false) {
+        go_through(&input[..n], true);
         return;
     }
-    if go_through(&input[..n], false) {
-        go_through(&input[..n], true);
-    } else {
-        io::write_all(1, b"I\n");
-    }
+    io::write_all(1, b"I\n");
 }

@@ -4,11 +4,12 @@ use mathlib.Core.Bool.{Bool, true}
 use mathlib.Core.Path.{_≡_}
 use native.Mathlib.Omega.{arith}
 use lib.Dec.{eqb}
-use borrow.Author.Tests.{eqb-true, eqb-false}
+use borrow.Author.Tests.{eq-eqb, ne-eqb}
 use Rattle.streaming.specs.declared.FlatWalker.{FlatWalker}
+use Rattle.streaming.specs.Choose.{if_then_else_}
 use Rattle.streaming.proofs.Cases.{shown}
 use Rattle.streaming.proofs.Choose.{in-both}
-use Rattle.rules.specs.Object.{mayStart}
+use Rattle.rules.specs.Object.{mayStart, mayEnd}
 use Rattle.chunk.proofs.Fitness.{in-chunk-shows}
 use Rattle.chunk.specs.Fit.{inChunk}
 use Rattle.object.specs.Fit.{behindEntry, objectDone, objectConsistent, sizeInWords, fitObject, FitObject}
@@ -58,59 +59,50 @@ parts : (s : FlatWalker) → fitObject s ≡ true → Parts s
 unfolding fitObject objectConsistent sizeInWords
 parts s e = search shown
 
+-- in the size words, and behind them: what is done lies in the one or in the other
+record InWords (s : FlatWalker) : Type 0 where
+  few : s .words ≤ 1
+  low : 2 * s .words ≤ s .done
+  high : s .done < 2 * s .words + 2
+
+record BehindWords (s : FlatWalker) : Type 0 where
+  bytes : s .«ms_len» ≡ 2 * s .words
+  some : 0 < s .size
+  ends : mayEnd (s .header) (s .object) (s .object + s .«ms_len» + s .size + 2) ≡ true
+  low : s .«ms_len» ≤ s .done
+  high : s .done < s .«ms_len» + s .size + 2
+
+in-words : (s : FlatWalker) → objectDone s ≡ true → s .«ms_len» ≡ 0 → InWords s
+unfolding objectDone if_then_else_
+in-words s e z = let k = rw (eq-eqb _ _ z) at e in search shown
+
+behind-words : (s : FlatWalker) → objectDone s ≡ true → (s .«ms_len» ≡ 0 → ⊥) → BehindWords s
+unfolding objectDone if_then_else_
+behind-words s e n = let k = rw (ne-eqb _ _ n) at e in search shown
+
 pub fit-object-shows : (s : FlatWalker) → fitObject s ≡ true → FitObject s
-unfolding objectDone
 fit-object-shows s e =
     let p = parts s e in
-    let chunk = in-chunk-shows (s .header) (s .map) (p .chunk) in
     let entry = entry-shown s (p .entry) in
-    let words = words-shown s (p .done) in
-    let near = entry-shows-near s (p .entry) in
-    in-both (λ (t : Bool). t ≡ true → FitObject s) (eqb (s .«ms_len») 0)
-    (λ t k.
-    let none : s .«ms_len» ≡ 0 = eqb-true _ _ t in
+    let done = p .done in
     record {
-      chunk = chunk;
+      chunk = in-chunk-shows (s .header) (s .map) (p .chunk);
       low = entry .low;
       high = entry .high;
       field = entry .field;
       shift = entry .shift;
       mc = entry .mc;
       located = entry .located;
-      near = near;
+      near = entry-shows-near s (p .entry);
       starts = entry .starts;
-      words = words;
+      words = words-shown s done;
       sized = p .sized;
-      fewWords = λ _. search shown;
-      wordLow = λ _. search shown;
-      wordHigh = λ _. search shown;
-      wordBytes = λ n. absurd (n none);
-      some = λ n. absurd (n none);
-      ends = λ n. absurd (n none);
-      behind = λ n. absurd (n none);
-      inside = λ n. absurd (n none);
-    })
-    (λ t k.
-    let some : s .«ms_len» ≡ 0 → ⊥ = eqb-false _ _ t in
-    record {
-      chunk = chunk;
-      low = entry .low;
-      high = entry .high;
-      field = entry .field;
-      shift = entry .shift;
-      mc = entry .mc;
-      located = entry .located;
-      near = near;
-      starts = entry .starts;
-      words = words;
-      sized = p .sized;
-      fewWords = λ z. absurd (some z);
-      wordLow = λ z. absurd (some z);
-      wordHigh = λ z. absurd (some z);
-      wordBytes = λ _. search shown;
-      some = λ _. search shown;
-      ends = λ _. search shown;
-      behind = λ _. search shown;
-      inside = λ _. search shown;
-    })
-    (p .done)
+      fewWords = λ z. in-words s done z .few;
+      wordLow = λ z. in-words s done z .low;
+      wordHigh = λ z. in-words s done z .high;
+      wordBytes = λ n. behind-words s done n .bytes;
+      some = λ n. behind-words s done n .some;
+      ends = λ n. behind-words s done n .ends;
+      behind = λ n. behind-words s done n .low;
+      inside = λ n. behind-words s done n .high;
+    }

@@ -9,7 +9,7 @@ use lib.Bits.{bitOr}
 use Rattle.crc.specs.Crc.{crcOf}
 use Rattle.octets.specs.Octets.{littleEndian}
 use Rattle.streaming.specs.Choose.{if_then_else_}
-use Rattle.streaming.specs.State.{inUnit, withObject, stepped, fell}
+use Rattle.streaming.specs.State.{inUnit, withObject, stepped, goesOn, fell}
 use Rattle.streaming.specs.declared.Request.{Request}
 use Rattle.streaming.specs.declared.Part.the-variants as part
 use Rattle.streaming.specs.declared.Step.the-variants as step
@@ -98,7 +98,7 @@ module _ (s : FlatWalker) where
         let field = sets (s .field) (s .done % 2) piece in
         let done = s .done + length piece in
         if eqb (done % 2) 0 then settleWord done crc field (littleEndian (take 2 field))
-        else stepped step.Framing (inUnit s (s .stage) done (s .size) crc field)
+        else goesOn s done (s .size) crc field
 
     -- the first 16 bytes are kept for the prologue
     unfoldable pub feedObjectData : Fed
@@ -112,7 +112,7 @@ module _ (s : FlatWalker) where
     feedObjectCrc =
         let field = sets (s .field) (s .done - (s .«ms_len» + s .size)) piece in
         if eqb (s .done + length piece) (s .«ms_len» + s .size + 2) then settleObjectCrc field (littleEndian (take 2 field))
-        else stepped step.Framing (inUnit s (s .stage) (s .done + length piece) (s .size) (s .crc) field)
+        else goesOn s (s .done + length piece) (s .size) (s .crc) field
 
     unfoldable pub feedObject : Fed
     feedObject =

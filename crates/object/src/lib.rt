@@ -9,7 +9,6 @@ ghost use Rattle.object.specs.Fit.{FitObject};
 use header::header_end;
 use header::map_end;
 use header::map_start;
-use streaming::Answer;
 use streaming::Fault;
 use streaming::Fed;
 use streaming::FlatHeader;
@@ -19,6 +18,10 @@ use streaming::Request;
 use streaming::Stage;
 use streaming::Step;
 use streaming::fell;
+use streaming::go_on;
+use streaming::in_unit;
+use streaming::stepped;
+use streaming::with_object;
 
 pub mod fit;
 pub mod verdict;
@@ -43,19 +46,10 @@ pub fn enter_object(s: FlatWalker, location: u64) -> Fed
 {
     let h = s.header;
     if may_start(h, location) {
-        return Fed {
-            answer: Answer::Step(Step::Framing),
-            state: FlatWalker {
-                stage: Stage::Object,
-                done: 0,
-                size: 0,
-                crc: 0xc0c1,
-                object: location,
-                ms_len: 0,
-                words: 0,
-                ..s
-            },
-        };
+        let head = s.head;
+        let field = s.field;
+        let t = in_unit(s, Stage::Object, 0, 0, 0xc0c1, field);
+        return stepped(Step::Framing, with_object(t, head, location, 0, 0));
     }
     let m = s.map;
     fell(
@@ -106,15 +100,7 @@ fn feed_word(s: FlatWalker, piece: &[u8]) -> Fed
     if done % 2 == 0 {
         return words::settle_word(s, done, crc, field, words::word_in(field));
     }
-    Fed {
-        answer: Answer::Step(Step::Framing),
-        state: FlatWalker {
-            done: done,
-            crc: crc,
-            field: field,
-            ..s
-        },
-    }
+    go_on(s, done, s.size, crc, field)
 }
 
 // The first 16 bytes of the data, with those that a piece at a place in it has.
@@ -142,15 +128,14 @@ fn feed_object_data(s: FlatWalker, piece: &[u8]) -> Fed
     let at = s.done - s.ms_len as u32;
     let head = s.head;
     let head = kept(head, at as usize, piece);
-    Fed {
-        answer: Answer::Step(Step::Payload(Part::Object)),
-        state: FlatWalker {
-            done: s.done + piece.len() as u32,
-            crc: crc,
-            head: head,
-            ..s
-        },
-    }
+    let field = s.field;
+    let done = s.done + piece.len() as u32;
+    let g = s.stage;
+    let t = in_unit(s, g, done, s.size, crc, field);
+    stepped(
+        Step::Payload(Part::Object),
+        with_object(t, head, s.object, s.ms_len, s.words),
+    )
 }
 
 // A piece of the checksum.
@@ -165,14 +150,7 @@ fn feed_object_crc(s: FlatWalker, piece: &[u8]) -> Fed
     if done == data_end + 2 {
         return verdict::settle_object_crc(s, field, words::word_in(field));
     }
-    Fed {
-        answer: Answer::Step(Step::Framing),
-        state: FlatWalker {
-            done: done,
-            field: field,
-            ..s
-        },
-    }
+    go_on(s, done, s.size, s.crc, field)
 }
 
 // A piece of what is asked for in an object.

@@ -20,6 +20,8 @@ use streaming::ObjectRecord;
 use streaming::Stage;
 use streaming::Step;
 use streaming::fell;
+use streaming::in_unit;
+use streaming::stepped;
 
 // What a whole object turns out to be.
 pub enum Judged {
@@ -97,10 +99,8 @@ fn leave_object(s: FlatWalker) -> FlatWalker
     if m.at == m.chunk + m.len as u64 {
         return chunk::enter_chunk(s, m.at + 2);
     }
-    FlatWalker {
-        stage: Stage::Entry,
-        ..s
-    }
+    let field = s.field;
+    in_unit(s, Stage::Entry, s.done, s.size, s.crc, field)
 }
 
 fn settle_verdict(s: FlatWalker, field: [u8; 4], v: Judged) -> Fed
@@ -109,16 +109,10 @@ fn settle_verdict(s: FlatWalker, field: [u8; 4], v: Judged) -> Fed
 {
     match v {
         Judged::Holds(r) => {
-            let t = FlatWalker {
-                done: s.ms_len as u32 + s.size + 2,
-                field: field,
-                ..s
-            };
-            let t = leave_object(t);
-            Fed {
-                answer: Answer::Step(Step::Object(r)),
-                state: t,
-            }
+            let g = s.stage;
+            let done = s.ms_len as u32 + s.size + 2;
+            let t = in_unit(s, g, done, s.size, s.crc, field);
+            stepped(Step::Object(r), leave_object(t))
         }
         Judged::Fails(f) => fell(f, s),
     }

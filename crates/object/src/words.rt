@@ -9,13 +9,13 @@ ghost use Rattle.object.specs.Object.{settleObjectSize, settleWord};
 ghost use Rattle.object.specs.Fit.{FitObject};
 use header::map_end;
 use header::map_start;
-use streaming::Answer;
 use streaming::Fault;
 use streaming::Fed;
 use streaming::FlatHeader;
 use streaming::FlatWalker;
-use streaming::Step;
 use streaming::fell;
+use streaming::go_on;
+use streaming::with_object;
 
 // Whether an object may end there: inside the source, with no byte of the map in its span.
 pub fn may_end(h: FlatHeader, location: u64, end: u64) -> bool
@@ -37,18 +37,9 @@ fn settle_object_size(s: FlatWalker, done: u32, size: u32, crc: u16, field: [u8;
         return fell(Fault::ObjectSize(m.handle), s);
     }
     if may_end(h, s.object, s.object + done as u64 + size as u64 + 2) {
-        return Fed {
-            answer: Answer::Step(Step::Framing),
-            state: FlatWalker {
-                done: done,
-                size: size,
-                crc: crc,
-                field: field,
-                ms_len: done as u8,
-                words: s.words + 1,
-                ..s
-            },
-        };
+        let head = s.head;
+        let t = with_object(s, head, s.object, done as u8, s.words + 1);
+        return go_on(t, done, size, crc, field);
     }
     fell(
         Fault::ObjectRange {
@@ -84,18 +75,9 @@ pub fn settle_word(s: FlatWalker, done: u32, crc: u16, field: [u8; 4], word: u16
         return settle_object_size(s, done, size, crc, field);
     }
     if s.words == 0 {
-        return Fed {
-            answer: Answer::Step(Step::Framing),
-            state: FlatWalker {
-                done: done,
-                size: size,
-                crc: crc,
-                field: field,
-                ms_len: 0,
-                words: 1,
-                ..s
-            },
-        };
+        let head = s.head;
+        let t = with_object(s, head, s.object, 0, 1);
+        return go_on(t, done, size, crc, field);
     }
     let m = s.map;
     fell(Fault::ObjectSize(m.handle), s)

@@ -22,7 +22,7 @@ pub fn le16(a: u8, b: u8) -> u16
 pub fn be16(a: u8, b: u8) -> u16
     ensures { λ r. ⌜ r ≡ bigEndian (a ∷ b ∷ []) ⌝ }
 {
-    (wide(b) + 256 * wide(a)) as u16
+    le16(b, a)
 }
 
 pub fn le32(a: u8, b: u8, c: u8, d: u8) -> u32

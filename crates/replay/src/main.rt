@@ -29,13 +29,9 @@ fn answers(s: &[u8]) {
 fn main() {
     let mut input = io::large_buffer();
     let n = io::read_full(0, &mut input);
-    if n > 60000 {
-        io::write_all(1, b"I\n");
+    if (n <= 60000) & form::whole(&input[..n]) {
+        answers(&input[..n]);
         return;
     }
-    if form::whole(&input[..n]) {
-        answers(&input[..n]);
-    } else {
-        io::write_all(1, b"I\n");
-    }
+    io::write_all(1, b"I\n");
 }

@@ -6,7 +6,7 @@ use mathlib.Core.Path.{_≡_}
 use borrow.Author.Tests.{ltb-false}
 use Rattle.streaming.specs.declared.FlatHeader.{FlatHeader}
 use Rattle.rules.specs.Header.{locatorOf, isOutside, startRefusal}
-use Rattle.rules.proofs.Choose.{passed-by}
+use Rattle.streaming.proofs.Choose.{passed-by}
 
 pub record Started (h : FlatHeader) : Type 0 where
   pub count : h .count ≤ 6

@@ -4,7 +4,6 @@ pub mod Table
 pub mod Cases
 pub mod EasyToGetWrong
 pub mod Limits
-pub mod Choose
 pub mod Header
 pub mod Section
 pub mod Entry

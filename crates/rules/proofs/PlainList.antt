@@ -16,7 +16,7 @@ use Rattle.rules.specs.Map.{chunkSize, chunkEntries, chunkFits}
 use Rattle.rules.specs.Map.{askEntries, chunkTurn, chunkCrcTurn, chunkSizeTurn, askChunks}
 use Rattle.rules.specs.Rules.{rules}
 use Rattle.rules.specs.PlainList.{told, objectThen, entriesThen, checkedChunkThen, chunkThen, chunksFrom, partThen, plainList}
-use Rattle.rules.proofs.Choose.{choose-alike}
+use Rattle.streaming.proofs.Choose.{choose-alike}
 use Rattle.rules.proofs.Header.{started}
 use Rattle.rules.proofs.Section.{vars, classes}
 use Rattle.rules.proofs.Entry.{Within}

@@ -11,7 +11,7 @@ use lib.Dec.{leb}
 use borrow.Author.Tests.{leb-true, leb-false, ltb-false, le-leb, lt-leb}
 use Rattle.streaming.specs.Choose.{if_then_else_}
 use Rattle.rules.specs.Prologue.{Prologue, bitAt, bitsAt, reading, readingHandle, behindType, readingType, prologueOf}
-use Rattle.rules.proofs.Choose.{choose-alike}
+use Rattle.streaming.proofs.Choose.{choose-alike}
 
 -- two choices of prologues by one test
 either-same : (t : Bool) {x y u v : Option Prologue} → (t ≡ true → x ≡ u) → (t ≡ false → y ≡ v) → (if t then x else y) ≡ (if t then u else v)

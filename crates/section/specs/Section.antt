@@ -8,7 +8,7 @@ use Rattle.crc.specs.Crc.{crcOf}
 use Rattle.octets.specs.Octets.{littleEndian, same}
 use Rattle.streaming.specs.Choose.{if_then_else_}
 use Rattle.streaming.specs.Numbers.{partNumber}
-use Rattle.streaming.specs.State.{inUnit, failing, stepped, fell}
+use Rattle.streaming.specs.State.{inUnit, failing, stepped, goesOn, fell}
 use Rattle.streaming.specs.declared.Locator.{Locator}
 use Rattle.streaming.specs.declared.Request.{Request}
 use Rattle.streaming.specs.declared.Part.{Part}
@@ -76,13 +76,13 @@ module _ (s : FlatWalker) where
   -- the size is whole: with the frame it has to be the locator's
   unfoldable pub settleSectionSize : (crc : ℕ) (field : List ℕ) (size : ℕ) → Fed
   settleSectionSize crc field size =
-      if eqb (frame + size) (sectionOf s .size) then stepped step.Framing (inUnit s (s .stage) 20 size crc field)
+      if eqb (frame + size) (sectionOf s .size) then goesOn s 20 size crc field
       else fell (fault.SectionSize (partNumber (partOf (s .stage)))) s
 
   -- the checksum is whole
   unfoldable pub settleSectionCrc : (field : List ℕ) (stored : ℕ) → Fed
   settleSectionCrc field stored =
-      if eqb stored (s .crc) then stepped step.Framing (inUnit s (s .stage) (22 + s .size) (s .size) (s .crc) field)
+      if eqb stored (s .crc) then goesOn s (22 + s .size) (s .size) (s .crc) field
       else fell (fault.SectionCrc (partNumber (partOf (s .stage))) (s .crc) stored) s
 
   -- the last byte commits
@@ -94,7 +94,7 @@ module _ (s : FlatWalker) where
     unfoldable pub feedSectionStart : Fed
     feedSectionStart =
         if same piece (part (startSentinel (partOf (s .stage))) (s .done) (length piece)) then
-        stepped step.Framing (inUnit s (s .stage) (s .done + length piece) (s .size) seed (s .field))
+        goesOn s (s .done + length piece) (s .size) seed (s .field)
         else fell (fault.SectionSentinel (partNumber (partOf (s .stage)))) s
 
     unfoldable pub feedSectionSize : Fed
@@ -102,7 +102,7 @@ module _ (s : FlatWalker) where
         let crc = crcOf (s .crc) piece in
         let field = sets (s .field) (s .done - 16) piece in
         if eqb (s .done + length piece) 20 then settleSectionSize crc field (littleEndian field)
-        else stepped step.Framing (inUnit s (s .stage) (s .done + length piece) (s .size) crc field)
+        else goesOn s (s .done + length piece) (s .size) crc field
 
     unfoldable pub feedSectionData : Fed
     feedSectionData =
@@ -112,13 +112,13 @@ module _ (s : FlatWalker) where
     feedSectionCrc =
         let field = sets (s .field) (s .done - (20 + s .size)) piece in
         if eqb (s .done + length piece) (22 + s .size) then settleSectionCrc field (littleEndian (take 2 field))
-        else stepped step.Framing (inUnit s (s .stage) (s .done + length piece) (s .size) (s .crc) field)
+        else goesOn s (s .done + length piece) (s .size) (s .crc) field
 
     unfoldable pub feedSectionEnd : Fed
     feedSectionEnd =
         if same piece (part (endSentinel (partOf (s .stage))) (s .done - (22 + s .size)) (length piece)) then
         (if eqb (s .done + length piece) (frame + s .size) then settleSection
-        else stepped step.Framing (inUnit s (s .stage) (s .done + length piece) (s .size) (s .crc) (s .field)))
+        else goesOn s (s .done + length piece) (s .size) (s .crc) (s .field))
         else fell (fault.SectionSentinel (partNumber (partOf (s .stage)))) s
 
     unfoldable pub feedSection : Fed

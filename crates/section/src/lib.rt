@@ -15,12 +15,13 @@ use pieces::feed_section_data;
 use pieces::feed_section_end;
 use pieces::feed_section_size;
 use pieces::feed_section_start;
-use streaming::Failure;
 use streaming::Fault;
 use streaming::Fed;
 use streaming::FlatWalker;
 use streaming::Request;
 use streaming::Stage;
+use streaming::failing;
+use streaming::in_unit;
 
 mod hand;
 mod pieces;
@@ -74,19 +75,12 @@ pub fn enter_section(s: FlatWalker, g: Stage) -> FlatWalker
 {
     let number = part_number(g);
     let l = locator(s.header, number);
-    let t = FlatWalker {
-        stage: g,
-        done: 0,
-        size: 0,
-        ..s
-    };
+    let field = s.field;
+    let t = in_unit(s, g, 0, 0, s.crc, field);
     if FRAME <= l.size as u64 {
         return t;
     }
-    FlatWalker {
-        failure: Failure::Held(Fault::SectionSize(number)),
-        ..t
-    }
+    failing(t, Fault::SectionSize(number))
 }
 
 // A piece of the field that is asked for.

@@ -17,12 +17,14 @@ use crc::crc8;
 use octets::copy_in;
 use octets::le16;
 use octets::le32;
-use streaming::Answer;
 use streaming::Fault;
 use streaming::Fed;
 use streaming::FlatWalker;
 use streaming::Step;
 use streaming::fell;
+use streaming::go_on;
+use streaming::in_unit;
+use streaming::stepped;
 
 // A piece of the start sentinel, which is compared piece by piece.
 pub fn feed_section_start(s: FlatWalker, piece: &[u8]) -> Fed
@@ -32,14 +34,8 @@ pub fn feed_section_start(s: FlatWalker, piece: &[u8]) -> Fed
     let g = s.stage;
     let number = part_number(g);
     if spells(number as usize, 0, s.done as usize, piece) {
-        return Fed {
-            answer: Answer::Step(Step::Framing),
-            state: FlatWalker {
-                done: s.done + piece.len() as u32,
-                crc: SEED,
-                ..s
-            },
-        };
+        let field = s.field;
+        return go_on(s, s.done + piece.len() as u32, s.size, SEED, field);
     }
     fell(Fault::SectionSentinel(number), s)
 }
@@ -57,15 +53,7 @@ pub fn feed_section_size(s: FlatWalker, piece: &[u8]) -> Fed
         let size = le32(field[0], field[1], field[2], field[3]);
         return settle_section_size(s, crc, field, size);
     }
-    Fed {
-        answer: Answer::Step(Step::Framing),
-        state: FlatWalker {
-            done: done,
-            crc: crc,
-            field: field,
-            ..s
-        },
-    }
+    go_on(s, done, s.size, crc, field)
 }
 
 // A piece of the data, which is payload.
@@ -75,14 +63,13 @@ pub fn feed_section_data(s: FlatWalker, piece: &[u8]) -> Fed
     ensures { λ r. ⌜ r ≡ feedSectionData s (now (piece .entry)) ⌝ }
 {
     let g = s.stage;
-    Fed {
-        answer: Answer::Step(Step::Payload(part_of(g))),
-        state: FlatWalker {
-            done: s.done + piece.len() as u32,
-            crc: crc8(s.crc, piece),
-            ..s
-        },
-    }
+    let field = s.field;
+    let done = s.done + piece.len() as u32;
+    let crc = crc8(s.crc, piece);
+    stepped(
+        Step::Payload(part_of(g)),
+        in_unit(s, g, done, s.size, crc, field),
+    )
 }
 
 // A piece of the checksum.
@@ -97,14 +84,7 @@ pub fn feed_section_crc(s: FlatWalker, piece: &[u8]) -> Fed
     if done == 22 + s.size {
         return settle_section_crc(s, field, le16(field[0], field[1]));
     }
-    Fed {
-        answer: Answer::Step(Step::Framing),
-        state: FlatWalker {
-            done: done,
-            field: field,
-            ..s
-        },
-    }
+    go_on(s, done, s.size, s.crc, field)
 }
 
 // A piece of the end sentinel, whose last byte commits the section.
@@ -123,8 +103,6 @@ pub fn feed_section_end(s: FlatWalker, piece: &[u8]) -> Fed
     if done as u64 == FRAME + s.size as u64 {
         return settle_section(s);
     }
-    Fed {
-        answer: Answer::Step(Step::Framing),
-        state: FlatWalker { done: done, ..s },
-    }
+    let field = s.field;
+    go_on(s, done, s.size, s.crc, field)
 }

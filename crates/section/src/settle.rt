@@ -10,7 +10,6 @@ use crate::hand::part_of;
 use crate::hand::section;
 use chunk::enter_chunk;
 use header::map_start;
-use streaming::Answer;
 use streaming::Fault;
 use streaming::Fed;
 use streaming::FlatWalker;
@@ -18,6 +17,8 @@ use streaming::SectionRecord;
 use streaming::Stage;
 use streaming::Step;
 use streaming::fell;
+use streaming::go_on;
+use streaming::stepped;
 
 // The size is whole: with the frame it has to be the locator's.
 pub fn settle_section_size(s: FlatWalker, crc: u16, field: [u8; 4], size: u32) -> Fed
@@ -26,16 +27,7 @@ pub fn settle_section_size(s: FlatWalker, crc: u16, field: [u8; 4], size: u32) -
     let g = s.stage;
     let l = section(s);
     if FRAME + size as u64 == l.size as u64 {
-        return Fed {
-            answer: Answer::Step(Step::Framing),
-            state: FlatWalker {
-                done: 20,
-                size: size,
-                crc: crc,
-                field: field,
-                ..s
-            },
-        };
+        return go_on(s, 20, size, crc, field);
     }
     fell(Fault::SectionSize(part_number(g)), s)
 }
@@ -47,14 +39,7 @@ pub fn settle_section_crc(s: FlatWalker, field: [u8; 4], stored: u16) -> Fed
 {
     let g = s.stage;
     if stored == s.crc {
-        return Fed {
-            answer: Answer::Step(Step::Framing),
-            state: FlatWalker {
-                done: 22 + s.size,
-                field: field,
-                ..s
-            },
-        };
+        return go_on(s, 22 + s.size, s.size, s.crc, field);
     }
     fell(
         Fault::SectionCrc {
@@ -91,8 +76,5 @@ pub fn settle_section(s: FlatWalker) -> Fed
         data_offset: l.offset as u64 + 20,
         size: s.size,
     };
-    Fed {
-        answer: Answer::Step(Step::Section(record)),
-        state: enter_next(g, s),
-    }
+    stepped(Step::Section(record), enter_next(g, s))
 }

@@ -22,7 +22,7 @@ use Rattle.account.specs.Asking.{Turn, bad}
 use Rattle.account.specs.Statement.{part}
 use Rattle.account.proofs.Parts.{length-part, part-add}
 use Rattle.account.proofs.Walks.{On, stop, Lands, lands-bad}
-use Rattle.rules.proofs.Choose.{choose-alike}
+use Rattle.streaming.proofs.Choose.{choose-alike}
 use Rattle.stands.proofs.Bare.{outcome, bare, failing-asks}
 
 -- ---- choices

@@ -2,6 +2,7 @@
 use Prim.Native.Nat.{ℕ}
 use mathlib.Core.List.{List}
 use Rattle.streaming.specs.declared.Step.{Step}
+use Rattle.streaming.specs.declared.Step.the-variants as step
 use Rattle.streaming.specs.declared.Fault.{Fault}
 use Rattle.streaming.specs.declared.StreamError.{StreamError}
 use Rattle.streaming.specs.declared.StreamError.the-variants as error
@@ -55,6 +56,10 @@ atEntry chunk len at handle loc mc shift field = record { chunk = chunk; len = l
 
 abbrev pub stepped : Step → FlatWalker → Fed
 stepped step s = record { answer = answer.Step step; state = s }
+
+-- the unit in hand goes on, and nothing of it is payload
+abbrev pub goesOn : FlatWalker → (done size crc : ℕ) → (field : List ℕ) → Fed
+goesOn s done size crc field = stepped step.Framing (inUnit s (s .stage) done size crc field)
 
 -- a refused call leaves the state as it was
 abbrev pub refusedBy : StreamError → FlatWalker → Fed

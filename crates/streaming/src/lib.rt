@@ -1,6 +1,7 @@
 // The types of the walk, with the Rust's names where a thing is the Rust's (src/streaming/mod.rs and flat.rs).
 ghost use mathlib.Core.Path.{_≡_};
-ghost use Rattle.streaming.specs.State.{fell as State·fell};
+ghost use Rattle.streaming.specs.State.{inUnit, withObject, goesOn};
+ghost use Rattle.streaming.specs.State.{failing as State·failing, stepped as State·stepped, fell as State·fell};
 
 // A section locator.
 pub struct Locator {
@@ -92,18 +93,9 @@ pub enum StreamError {
     LocatorCount(u8),
     LocatorRange(u8),
     Finished,
-    WrongOffset {
-        expected: u64,
-        actual: u64,
-    },
-    InvalidFeed {
-        maximum: u64,
-        actual: u64,
-    },
-    Truncated {
-        offset: u64,
-        needed: u64,
-    },
+    WrongOffset { expected: u64, actual: u64 },
+    InvalidFeed { maximum: u64, actual: u64 },
+    Truncated { offset: u64, needed: u64 },
     Fault(Fault),
     NoRoom(u64),
     BadState,
@@ -190,15 +182,74 @@ pub struct Fed {
     pub state: FlatWalker,
 }
 
+// The unit in hand: its stage, how much of it is done, its size, its checksum so far and the bytes of a partial number.
+pub fn in_unit(
+    s: FlatWalker,
+    stage: Stage,
+    done: u32,
+    size: u32,
+    crc: u16,
+    field: [u8; 4],
+) -> FlatWalker
+    ensures { λ r. ⌜ r ≡ inUnit s stage done size crc field ⌝ }
+{
+    FlatWalker {
+        stage: stage,
+        done: done,
+        size: size,
+        crc: crc,
+        field: field,
+        ..s
+    }
+}
+
+// The object in hand: the first bytes of its data, its location, the bytes of its size field and its size words.
+pub fn with_object(s: FlatWalker, head: [u8; 16], object: u64, ms_len: u8, words: u8) -> FlatWalker
+    ensures { λ r. ⌜ r ≡ withObject s head object «ms_len» words ⌝ }
+{
+    FlatWalker {
+        head: head,
+        object: object,
+        ms_len: ms_len,
+        words: words,
+        ..s
+    }
+}
+
+// A fault is held.
+pub fn failing(s: FlatWalker, f: Fault) -> FlatWalker
+    ensures { λ r. ⌜ r ≡ State·failing s f ⌝ }
+{
+    FlatWalker {
+        failure: Failure::Held(f),
+        ..s
+    }
+}
+
+// A step is answered.
+pub fn stepped(step: Step, s: FlatWalker) -> Fed
+    ensures { λ r. ⌜ r ≡ State·stepped step s ⌝ }
+{
+    Fed {
+        answer: Answer::Step(step),
+        state: s,
+    }
+}
+
+// The unit in hand goes on, and nothing of it is payload.
+pub fn go_on(s: FlatWalker, done: u32, size: u32, crc: u16, field: [u8; 4]) -> Fed
+    ensures { λ r. ⌜ r ≡ goesOn s done size crc field ⌝ }
+{
+    let stage = s.stage;
+    stepped(Step::Framing, in_unit(s, stage, done, size, crc, field))
+}
+
 // A fault is answered and held.
 pub fn fell(f: Fault, s: FlatWalker) -> Fed
     ensures { λ r. ⌜ r ≡ State·fell f s ⌝ }
 {
     Fed {
         answer: Answer::Refused(StreamError::Fault(f)),
-        state: FlatWalker {
-            failure: Failure::Held(f),
-            ..s
-        },
+        state: failing(s, f),
     }
 }

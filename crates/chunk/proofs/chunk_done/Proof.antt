@@ -10,18 +10,10 @@ returns : tie.Need-returns
 unfolding chunkDone if_then_else_
 returns c = search cases
 
-add-result : tie.Need-add-result
-add-result c = search needs
-
-add-result-2 : tie.Need-add-result-2
-add-result-2 c = search needs
-
-add-result-3 : tie.Need-add-result-3
-add-result-3 c = search needs
-
 returns-2 : tie.Need-returns-2
 unfolding chunkDone if_then_else_
 returns-2 c = search cases
 
 pub chunk-done-spec : {M : Type 1} → statement M
-chunk-done-spec = tie.close (tie.spec returns add-result add-result-2 add-result-3 returns-2)
+chunk-done-spec =
+    tie.close (tie.spec returns (search needs) (search needs) (search needs) returns-2)

@@ -1,4 +1,5 @@
 -- `enter_chunk` meets its contract.
+use borrow.Author.Tests.{lt-leb}
 use Rattle.streaming.specs.Choose.{if_then_else_}
 use Rattle.streaming.proofs.Cases.{cases}
 use Rattle.chunk.specs.Chunk.{enterChunk}
@@ -6,19 +7,14 @@ use borrow.Author.Needs.{needs}
 use Rattle.chunk.proofs.enter_chunk.Statement.{statement}
 use Rattle.chunk.proofs.enter_chunk.Tie as tie
 
-map-end-requires : tie.Need-map-end-requires
-map-end-requires c κs = search needs
-
-add-if1 : tie.Need-add-if1
-add-if1 c = search needs
-
 returns : tie.Need-returns
 unfolding enterChunk if_then_else_
 returns c = rw (← c .before .before .before .map-end .ensures .0) (search cases)
 
 returns-2 : tie.Need-returns-2
 unfolding enterChunk if_then_else_
-returns-2 c = rw (← c .before .before .before .before .before .before .before .map-end .ensures .0) (search cases)
+returns-2 c = rw (← c .before .before .before .before .map-end .ensures .0, lt-leb _ _ (c .before .if1 .left)) (c .failing .ensures)
 
 pub enter-chunk-spec : {M : Type 1} → statement M
-enter-chunk-spec = tie.close (tie.spec map-end-requires add-if1 returns returns-2)
+enter-chunk-spec =
+    tie.close (tie.spec (search needs) (search needs) returns (search needs) returns-2)

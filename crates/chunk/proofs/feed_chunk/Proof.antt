@@ -47,11 +47,4 @@ returns-3 c = simp (le-ltb _ _ (c .before .before .before .if1 .left), le-ltb _ 
 
 pub feed-chunk-spec : {M : Type 1} → statement M
 feed-chunk-spec =
-    tie.close
-    (tie.spec
-    feed-chunk-size-requires
-    returns
-    feed-chunk-entries-requires
-    returns-2
-    feed-chunk-crc-requires
-    returns-3)
+    tie.close (tie.spec feed-chunk-size-requires returns feed-chunk-entries-requires returns-2 feed-chunk-crc-requires returns-3)

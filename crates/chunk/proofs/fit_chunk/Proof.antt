@@ -11,30 +11,12 @@ use borrow.Author.Needs.{needs}
 use Rattle.chunk.proofs.fit_chunk.Statement.{statement}
 use Rattle.chunk.proofs.fit_chunk.Tie as tie
 
-map-start-requires : tie.Need-map-start-requires
-map-start-requires c κs = search needs
-
-map-end-requires : tie.Need-map-end-requires
-map-end-requires c κs = search needs
-
 returns : tie.Need-returns
 unfolding fitChunk
 returns c =
     let s = c .before .before .before .before .before .before .args .s in
     let h : mapEnd (s .header) < s .map .chunk + 4 = omega (arith, c .before .before .map-end .ensures .0) in
     telling _ _ (simp (lt-leb _ _ h, and-false)) (fit-chunk-shows s)
-
-no-object-requires : tie.Need-no-object-requires
-no-object-requires c κs = search needs
-
-no-entry-requires : tie.Need-no-entry-requires
-no-entry-requires c κs = search needs
-
-chunk-done-requires : tie.Need-chunk-done-requires
-chunk-done-requires c κs = search needs
-
-add-result : tie.Need-add-result
-add-result c = search needs
 
 returns-2 : tie.Need-returns-2
 unfolding fitChunk
@@ -52,13 +34,4 @@ returns-2 c =
 
 pub fit-chunk-spec : {M : Type 1} → statement M
 fit-chunk-spec =
-    tie.close
-    (tie.spec
-    map-start-requires
-    map-end-requires
-    returns
-    no-object-requires
-    no-entry-requires
-    chunk-done-requires
-    add-result
-    returns-2)
+    tie.close (tie.spec (search needs) (search needs) returns (search needs) (search needs) (search needs) (search needs) returns-2)

@@ -9,4 +9,5 @@ unfolding noEntry
 returns c = refl
 
 pub no-entry-spec : {M : Type 1} → statement M
-no-entry-spec = tie.close (tie.spec returns)
+no-entry-spec =
+    tie.close (tie.spec returns)

@@ -15,21 +15,6 @@ Inv-loop row seed s n crc₀ i₀ crc i = (i ≤ length s) × (crcOf crc (drop i
 abbrev μ-loop : tie.MeasureT-loop
 μ-loop row seed s n crc₀ i₀ crc i = length s - i
 
-loop-holds : tie.Need-loop-holds Inv-loop μ-loop
-loop-holds c = search needs
-
-shared-slice-read-one : tie.Need-shared-slice-read-one Inv-loop μ-loop
-shared-slice-read-one c = search needs
-
-one-requires : tie.Need-one-requires Inv-loop μ-loop
-one-requires c κs = search needs
-
-add-i : tie.Need-add-i Inv-loop μ-loop
-add-i c = search needs
-
-loop-less : tie.Need-loop-less Inv-loop μ-loop
-loop-less c = search needs
-
 loop-again : tie.Need-loop-again Inv-loop μ-loop
 loop-again c =
     let at = c .before .before .before .loop in
@@ -41,14 +26,4 @@ returns c =
 
 pub by-byte-spec : {M : Type 1} → statement M
 by-byte-spec =
-    tie.close
-    (tie.spec
-    Inv-loop
-    μ-loop
-    loop-holds
-    shared-slice-read-one
-    one-requires
-    add-i
-    loop-less
-    loop-again
-    returns)
+    tie.close (tie.spec Inv-loop μ-loop (search needs) (search needs) (λ c κs. search needs) (search needs) (search needs) loop-again returns)

@@ -15,32 +15,8 @@ Inv-loop rows seed s n crc₀ i₀ crc i = (i ≤ length s) × (crcOf crc (drop 
 abbrev μ-loop : tie.MeasureT-loop
 μ-loop rows seed s n crc₀ i₀ crc i = length s - i
 
-loop-holds : tie.Need-loop-holds Inv-loop μ-loop
-loop-holds c = search needs
-
-sub-loop : tie.Need-sub-loop Inv-loop μ-loop
-sub-loop c = search needs
-
-add-group : tie.Need-add-group Inv-loop μ-loop
-add-group c = search needs
-
-sub-group : tie.Need-sub-group Inv-loop μ-loop
-sub-group c = search needs
-
-part-group-start : tie.Need-part-group-start Inv-loop μ-loop
-part-group-start c = search needs
-
-part-group-end : tie.Need-part-group-end Inv-loop μ-loop
-part-group-end c = search needs
-
 group-requires : tie.Need-group-requires Inv-loop μ-loop
 group-requires c κs = (c .before .before .before .before .pre, simp (length-take, length-drop) (omega arith))
-
-add-i : tie.Need-add-i Inv-loop μ-loop
-add-i c = search needs
-
-loop-less : tie.Need-loop-less Inv-loop μ-loop
-loop-less c = search needs
 
 loop-again : tie.Need-loop-again Inv-loop μ-loop
 loop-again c =
@@ -49,18 +25,6 @@ loop-again c =
     let n : at .i + 8 - at .i ≡ 8 = omega arith in
     let e = rw n at (c .group .ensures) in
     (search needs, ap (λ (x : ℕ). crcOf x (drop (at .i + 8) s)) e ∙ sym (crc-part s (at .crc) (at .i) 8) ∙ at .inv .1)
-
-index-1-by-byte : tie.Need-index-1-by-byte Inv-loop μ-loop
-index-1-by-byte c = search needs
-
-sub-by-byte : tie.Need-sub-by-byte Inv-loop μ-loop
-sub-by-byte c = search needs
-
-part-by-byte-start : tie.Need-part-by-byte-start Inv-loop μ-loop
-part-by-byte-start c = search needs
-
-part-by-byte-end : tie.Need-part-by-byte-end Inv-loop μ-loop
-part-by-byte-end c = search needs
 
 by-byte-requires : tie.Need-by-byte-requires Inv-loop μ-loop
 by-byte-requires c κs = record { rule = λ i h. c .before .before .before .before .before .pre .rule 0 i (omega arith) h }
@@ -72,23 +36,5 @@ returns c =
 
 pub by-eight-spec : {M : Type 1} → statement M
 by-eight-spec =
-    tie.close
-    (tie.spec
-    Inv-loop
-    μ-loop
-    loop-holds
-    sub-loop
-    add-group
-    sub-group
-    part-group-start
-    part-group-end
-    group-requires
-    add-i
-    loop-less
-    loop-again
-    index-1-by-byte
-    sub-by-byte
-    part-by-byte-start
-    part-by-byte-end
-    by-byte-requires
-    returns)
+    tie.close (tie.spec Inv-loop μ-loop (search needs) (search needs) (search needs) (search needs) (search needs) (search needs) group-requires
+    (search needs) (search needs) loop-again (search needs) (search needs) (search needs) (search needs) by-byte-requires returns)

@@ -10,4 +10,5 @@ unfolding rowOf crcByte steps step polynomialIf
 returns c = right-table _ tt
 
 pub table-spec : {M : Type 1} → statement M
-table-spec = tie.close (tie.spec returns)
+table-spec =
+    tie.close (tie.spec returns)

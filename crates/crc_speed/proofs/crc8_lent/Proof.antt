@@ -13,21 +13,6 @@ Inv-loop seed s times rows crc₀ left₀ crc left = crcTimes left crc s ≡ crc
 abbrev μ-loop : tie.MeasureT-loop
 μ-loop seed s times rows crc₀ left₀ crc left = left
 
-table-requires : tie.Need-table-requires Inv-loop μ-loop
-table-requires c κs = search needs
-
-loop-holds : tie.Need-loop-holds Inv-loop μ-loop
-loop-holds c = search needs
-
-by-eight-requires : tie.Need-by-eight-requires Inv-loop μ-loop
-by-eight-requires c κs = search needs
-
-sub-left : tie.Need-sub-left Inv-loop μ-loop
-sub-left c = search needs
-
-loop-less : tie.Need-loop-less Inv-loop μ-loop
-loop-less c = search needs
-
 loop-again : tie.Need-loop-again Inv-loop μ-loop
 unfolding crcTimes
 loop-again c =
@@ -46,14 +31,4 @@ returns c =
 
 pub crc8-lent-spec : {M : Type 1} → statement M
 crc8-lent-spec =
-    tie.close
-    (tie.spec
-    Inv-loop
-    μ-loop
-    table-requires
-    loop-holds
-    by-eight-requires
-    sub-left
-    loop-less
-    loop-again
-    returns)
+    tie.close (tie.spec Inv-loop μ-loop (search needs) (search needs) (λ c κs. search needs) (search needs) (search needs) loop-again returns)

@@ -11,16 +11,10 @@ use Rattle.entry.proofs.at_byte.Tie as tie
 below : (a : tie.Start) → mapEnd (a .args .s .header) < 2 ^ 33
 below a = search (needs, map-end-below)
 
-in-chunk-requires : tie.Need-in-chunk-requires
-in-chunk-requires c κs = search needs
-
 add-result : tie.Need-add-result
 add-result c =
     let d = c .before in
     omega (arith, d .before .in-chunk .ensures .1 (d .if1 .taken), below (d .before .before .before .before))
-
-cast-result : tie.Need-cast-result
-cast-result c = search needs
 
 add-result-2 : tie.Need-add-result-2
 add-result-2 c =
@@ -39,4 +33,4 @@ returns-2 c = rw (← c .before .in-chunk .ensures .0, c .if1 .left)
 
 pub at-byte-spec : {M : Type 1} → statement M
 at-byte-spec =
-    tie.close (tie.spec in-chunk-requires add-result cast-result add-result-2 returns returns-2)
+    tie.close (tie.spec (search needs) add-result (search needs) add-result-2 returns returns-2)

@@ -13,14 +13,9 @@ below a = search (needs, map-end-below)
 add-result : tie.Need-add-result
 add-result c = omega (arith, below (c .before .before))
 
-cast-result : tie.Need-cast-result
-cast-result c = search needs
-
 add-result-2 : tie.Need-add-result-2
 add-result-2 c = omega (arith, below (c .before .before .before .before))
 
-returns : tie.Need-returns
-returns c = search needs
-
 pub at-last-spec : {M : Type 1} → statement M
-at-last-spec = tie.close (tie.spec add-result cast-result add-result-2 returns)
+at-last-spec =
+    tie.close (tie.spec add-result (search needs) add-result-2 (search needs))

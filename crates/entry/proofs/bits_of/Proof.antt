@@ -7,9 +7,6 @@ use Rattle.entry.specs.Entry.{bitsOf}
 use Rattle.entry.proofs.bits_of.Statement.{statement}
 use Rattle.entry.proofs.bits_of.Tie as tie
 
-is-last-requires : tie.Need-is-last-requires
-is-last-requires c κs = search needs
-
 cast-result : tie.Need-cast-result
 cast-result c = omega (arith, and-mask (c .before .before .args .byte) 6)
 
@@ -25,4 +22,5 @@ unfolding bitsOf if_then_else_
 returns-2 c = rw (← c .before .is-last .ensures, c .if1 .left) (and-mask (c .before .before .args .byte) 7)
 
 pub bits-of-spec : {M : Type 1} → statement M
-bits-of-spec = tie.close (tie.spec is-last-requires cast-result returns cast-result-2 returns-2)
+bits-of-spec =
+    tie.close (tie.spec (search needs) cast-result returns cast-result-2 returns-2)

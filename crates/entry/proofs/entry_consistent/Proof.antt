@@ -4,12 +4,10 @@ use Rattle.entry.specs.Fit.{entryConsistent}
 use Rattle.entry.proofs.entry_consistent.Statement.{statement}
 use Rattle.entry.proofs.entry_consistent.Tie as tie
 
-at-byte-requires : tie.Need-at-byte-requires
-at-byte-requires c κs = search needs
-
 returns : tie.Need-returns
 unfolding entryConsistent
 returns c = c .at-byte .ensures
 
 pub entry-consistent-spec : {M : Type 1} → statement M
-entry-consistent-spec = tie.close (tie.spec at-byte-requires returns)
+entry-consistent-spec =
+    tie.close (tie.spec (search needs) returns)

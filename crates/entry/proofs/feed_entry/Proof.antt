@@ -10,24 +10,9 @@ use Rattle.entry.proofs.Masks.{bits-small}
 use Rattle.entry.proofs.feed_entry.Statement.{statement}
 use Rattle.entry.proofs.feed_entry.Tie as tie
 
-refused-entry-requires : tie.Need-refused-entry-requires
-refused-entry-requires c κs = search needs
-
 returns : tie.Need-returns
 unfolding feedEntry if_then_else_
 returns c = rw (lt-leb _ _ (c .before .if1 .taken)) (c .refused-entry .ensures)
-
-bits-of-requires : tie.Need-bits-of-requires
-bits-of-requires c κs = search needs
-
-cast-settle-group : tie.Need-cast-settle-group
-cast-settle-group c = search needs
-
-shl-settle-group : tie.Need-shl-settle-group
-shl-settle-group c = search needs
-
-settle-group-requires : tie.Need-settle-group-requires
-settle-group-requires c κs = search needs
 
 returns-2 : tie.Need-returns-2
 unfolding feedEntry if_then_else_
@@ -40,12 +25,4 @@ returns-2 c =
 
 pub feed-entry-spec : {M : Type 1} → statement M
 feed-entry-spec =
-    tie.close
-    (tie.spec
-    refused-entry-requires
-    returns
-    bits-of-requires
-    cast-settle-group
-    shl-settle-group
-    settle-group-requires
-    returns-2)
+    tie.close (tie.spec (search needs) returns (search needs) (search needs) (search needs) (λ c κs. search needs) returns-2)

@@ -7,4 +7,5 @@ returns : tie.Need-returns
 returns c = sign-bit (c .args .byte)
 
 pub is-back-spec : {M : Type 1} → statement M
-is-back-spec = tie.close (tie.spec returns)
+is-back-spec =
+    tie.close (tie.spec returns)

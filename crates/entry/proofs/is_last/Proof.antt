@@ -8,4 +8,5 @@ returns : tie.Need-returns
 returns c = high-bit (c .args .byte) (omega arith)
 
 pub is-last-spec : {M : Type 1} → statement M
-is-last-spec = tie.close (tie.spec returns)
+is-last-spec =
+    tie.close (tie.spec returns)

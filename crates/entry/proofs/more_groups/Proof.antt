@@ -9,21 +9,12 @@ use Rattle.entry.specs.Entry.{moreGroups}
 use Rattle.entry.proofs.more_groups.Statement.{statement}
 use Rattle.entry.proofs.more_groups.Tie as tie
 
-at-last-requires : tie.Need-at-last-requires
-at-last-requires c κs = search needs
-
-refused-entry-requires : tie.Need-refused-entry-requires
-refused-entry-requires c κs = search needs
-
 returns : tie.Need-returns
 unfolding moreGroups if_then_else_
 returns c = rw (← c .before .before .at-last .ensures, c .before .if1 .taken) (c .refused-entry .ensures)
 
 add-t6 : tie.Need-add-t6
 add-t6 c = let e : mapEnd (c .before .before .before .before .args .s .header) < 2 ^ 33 = search (needs, map-end-below) in omega arith
-
-add-t7 : tie.Need-add-t7
-add-t7 c = search needs
 
 returns-2 : tie.Need-returns-2
 unfolding moreGroups if_then_else_
@@ -33,4 +24,4 @@ returns-2 c =
 
 pub more-groups-spec : {M : Type 1} → statement M
 more-groups-spec =
-    tie.close (tie.spec at-last-requires refused-entry-requires returns add-t6 add-t7 returns-2)
+    tie.close (tie.spec (λ c κs. search needs) (search needs) returns add-t6 (search needs) returns-2)

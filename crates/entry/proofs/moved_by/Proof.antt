@@ -30,9 +30,6 @@ returns-4 c =
     let far : 2 ^ 63 ≤ a .location + a .value = omega arith in
     rw (c .before .before .if1 .left, le-ltb _ _ far)
 
-add-t7 : tie.Need-add-t7
-add-t7 c = search needs
-
 returns-5 : tie.Need-returns-5
 unfolding movedBy if_then_else_
 returns-5 c =
@@ -41,4 +38,5 @@ returns-5 c =
     rw (c .before .before .if1 .left, lt-ltb _ _ near)
 
 pub moved-by-spec : {M : Type 1} → statement M
-moved-by-spec = tie.close (tie.spec returns returns-2 returns-3 returns-4 add-t7 returns-5)
+moved-by-spec =
+    tie.close (tie.spec returns returns-2 returns-3 returns-4 (search needs) returns-5)

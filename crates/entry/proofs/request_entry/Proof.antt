@@ -9,4 +9,5 @@ unfolding requestEntry
 returns c = search cases
 
 pub request-entry-spec : {M : Type 1} → statement M
-request-entry-spec = tie.close (tie.spec returns)
+request-entry-spec =
+    tie.close (tie.spec returns)

@@ -10,24 +10,12 @@ use Rattle.entry.specs.Entry.{settleHandle}
 use Rattle.entry.proofs.settle_handle.Statement.{statement}
 use Rattle.entry.proofs.settle_handle.Tie as tie
 
-sub-if1 : tie.Need-sub-if1
-sub-if1 c = search needs
-
-refused-entry-requires : tie.Need-refused-entry-requires
-refused-entry-requires c κs = search needs
-
 returns : tie.Need-returns
 unfolding settleHandle if_then_else_
 returns c =
     let a = c .before .before .before .before .args in
     let past : 2 ^ 64 ≤ a .s .map .handle + a .value = omega arith in
     rw (le-ltb _ _ past) (c .refused-entry .ensures)
-
-at-last-requires : tie.Need-at-last-requires
-at-last-requires c κs = search needs
-
-refused-entry-requires-2 : tie.Need-refused-entry-requires-2
-refused-entry-requires-2 c κs = search needs
 
 returns-2 : tie.Need-returns-2
 unfolding settleHandle if_then_else_
@@ -41,9 +29,6 @@ add-t5 c =
     let e : mapEnd (c .before .before .before .before .before .before .args .s .header) < 2 ^ 33 = search (needs, map-end-below) in
     omega arith
 
-add-t8 : tie.Need-add-t8
-add-t8 c = search needs
-
 returns-3 : tie.Need-returns-3
 unfolding settleHandle if_then_else_
 returns-3 c =
@@ -54,14 +39,4 @@ returns-3 c =
 
 pub settle-handle-spec : {M : Type 1} → statement M
 settle-handle-spec =
-    tie.close
-    (tie.spec
-    sub-if1
-    refused-entry-requires
-    returns
-    at-last-requires
-    refused-entry-requires-2
-    returns-2
-    add-t5
-    add-t8
-    returns-3)
+    tie.close (tie.spec (search needs) (search needs) returns (λ c κs. search needs) (search needs) returns-2 add-t5 (search needs) returns-3)

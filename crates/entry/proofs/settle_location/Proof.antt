@@ -12,15 +12,6 @@ use Rattle.entry.proofs.Moves.{moved-near, told-some, told-none}
 use Rattle.entry.proofs.settle_location.Statement.{statement}
 use Rattle.entry.proofs.settle_location.Tie as tie
 
-is-back-requires : tie.Need-is-back-requires
-is-back-requires c κs = search needs
-
-moved-by-requires : tie.Need-moved-by-requires
-moved-by-requires c κs = search needs
-
-enum-known-location : tie.Need-enum-known-location
-enum-known-location c = search needs
-
 add-t10 : tie.Need-add-t10
 add-t10 c =
     let e : mapEnd (c .before .before .before .before .before .before .before .args .s .header) < 2 ^ 33 = search (needs, map-end-below) in
@@ -44,12 +35,6 @@ enter-object-requires c κs =
     let d = c .before .before .before .before .before in
     moved-near _ _ _ _ (d .before .before .before .before .before .pre .near) (leads d)
 
-enum-told : tie.Need-enum-told
-enum-told c = search needs
-
-refused-entry-requires : tie.Need-refused-entry-requires
-refused-entry-requires c κs = search needs
-
 returns : tie.Need-returns
 unfolding settleLocation
 returns c = rw (leads (c .before .before .before .before .before .before)) (c .enter-object .ensures)
@@ -60,14 +45,4 @@ returns-2 c = rw (nowhere (c .before)) (c .refused-entry .ensures)
 
 pub settle-location-spec : {M : Type 1} → statement M
 settle-location-spec =
-    tie.close
-    (tie.spec
-    is-back-requires
-    moved-by-requires
-    enum-known-location
-    add-t10
-    enter-object-requires
-    enum-told
-    refused-entry-requires
-    returns
-    returns-2)
+    tie.close (tie.spec (search needs) (search needs) (search needs) add-t10 enter-object-requires (search needs) (search needs) returns returns-2)

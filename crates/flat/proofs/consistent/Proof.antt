@@ -4,18 +4,9 @@ use borrow.Author.Needs.{needs}
 use Rattle.flat.proofs.consistent.Statement.{statement}
 use Rattle.flat.proofs.consistent.Tie as tie
 
-is-sound-requires : tie.Need-is-sound-requires
-is-sound-requires c κs = search needs
-
-is-taken-requires : tie.Need-is-taken-requires
-is-taken-requires c κs = search needs
-
-consistent-at-requires : tie.Need-consistent-at-requires
-consistent-at-requires c κs = search needs
-
 returns : tie.Need-returns
 unfolding consistentOf
-returns c = 
+returns c =
     rw (← c .before .before .before .before .is-sound .ensures, c .before .before .before .if1 .taken, ← c .before .before .is-taken .ensures, c .before .if2 .taken) (c .consistent-at .ensures)
 
 returns-2 : tie.Need-returns-2
@@ -28,11 +19,4 @@ returns-3 c = rw (← c .before .is-sound .ensures, c .if1 .left)
 
 pub consistent-spec : {M : Type 1} → statement M
 consistent-spec =
-    tie.close
-    (tie.spec
-    is-sound-requires
-    is-taken-requires
-    consistent-at-requires
-    returns
-    returns-2
-    returns-3)
+    tie.close (tie.spec (search needs) (search needs) (search needs) returns returns-2 returns-3)

@@ -6,18 +6,6 @@ use borrow.Author.Needs.{needs}
 use Rattle.flat.proofs.end_of_input.Statement.{statement}
 use Rattle.flat.proofs.end_of_input.Tie as tie
 
-request-requires : tie.Need-request-requires
-request-requires c κs = search needs
-
-enum-known-asked : tie.Need-enum-known-asked
-enum-known-asked c = search needs
-
-enum-told : tie.Need-enum-told
-enum-told c = search needs
-
-enum-known-asked-2 : tie.Need-enum-known-asked-2
-enum-known-asked-2 c = search needs
-
 returns : tie.Need-returns
 unfolding endOf
 returns c = ap endedBy (sym (c .before .asked .given .1) ∙ c .before .before .before .request .ensures)
@@ -32,12 +20,4 @@ returns-3 c = ap endedBy (sym (c .before .asked2 .given .1) ∙ c .before .befor
 
 pub end-of-input-spec : {M : Type 1} → statement M
 end-of-input-spec =
-    tie.close
-    (tie.spec
-    request-requires
-    enum-known-asked
-    enum-told
-    enum-known-asked-2
-    returns
-    returns-2
-    returns-3)
+    tie.close (tie.spec (search needs) (search needs) (search needs) (search needs) returns returns-2 returns-3)

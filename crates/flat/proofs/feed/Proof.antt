@@ -4,26 +4,8 @@ use borrow.Author.Needs.{needs}
 use Rattle.flat.proofs.feed.Statement.{statement}
 use Rattle.flat.proofs.feed.Tie as tie
 
-enum-known-failure : tie.Need-enum-known-failure
-enum-known-failure c = search needs
-
-refused-requires : tie.Need-refused-requires
-refused-requires c κs = search needs
-
-enum-told : tie.Need-enum-told
-enum-told c = search needs
-
-is-taken-requires : tie.Need-is-taken-requires
-is-taken-requires c κs = search needs
-
-feed-stage-requires : tie.Need-feed-stage-requires
-feed-stage-requires c κs = search needs
-
 returns : tie.Need-returns
 returns c = fed-whole _ (c .before .before .before .enum-told .given .1) (c .before .before .is-taken .ensures) _ _ (c .before .if1 .taken) (c .feed-stage .ensures)
-
-refused-requires-2 : tie.Need-refused-requires-2
-refused-requires-2 c κs = search needs
 
 returns-2 : tie.Need-returns-2
 returns-2 c = fed-held _ _ _ (c .before .before .failure .given .1) (c .refused .ensures)
@@ -33,14 +15,4 @@ returns-3 c = fed-untaken _ (c .before .before .before .enum-told .given .1) (c 
 
 pub feed-spec : {M : Type 1} → statement M
 feed-spec =
-    tie.close
-    (tie.spec
-    enum-known-failure
-    refused-requires
-    enum-told
-    is-taken-requires
-    feed-stage-requires
-    returns
-    refused-requires-2
-    returns-2
-    returns-3)
+    tie.close (tie.spec (search needs) (search needs) (search needs) (search needs) (search needs) returns (search needs) returns-2 returns-3)

@@ -5,12 +5,6 @@ use borrow.Author.Needs.{needs}
 use Rattle.flat.proofs.fit.Statement.{statement}
 use Rattle.flat.proofs.fit.Tie as tie
 
-is-taken-requires : tie.Need-is-taken-requires
-is-taken-requires c κs = search needs
-
-fit-at-requires : tie.Need-fit-at-requires
-fit-at-requires c κs = search needs
-
 returns : tie.Need-returns
 returns c = c .fit-at .ensures ∙ sym (taken-fit _ (sym (c .before .before .is-taken .ensures) ∙ c .before .if1 .taken))
 
@@ -18,4 +12,5 @@ returns-2 : tie.Need-returns-2
 returns-2 c = sym (untaken-fit _ (sym (c .before .is-taken .ensures) ∙ c .if1 .left))
 
 pub fit-spec : {M : Type 1} → statement M
-fit-spec = tie.close (tie.spec is-taken-requires fit-at-requires returns returns-2)
+fit-spec =
+    tie.close (tie.spec (search needs) (search needs) returns returns-2)

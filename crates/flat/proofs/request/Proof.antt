@@ -4,18 +4,6 @@ use borrow.Author.Needs.{needs}
 use Rattle.flat.proofs.request.Statement.{statement}
 use Rattle.flat.proofs.request.Tie as tie
 
-enum-known-failure : tie.Need-enum-known-failure
-enum-known-failure c = search needs
-
-enum-told : tie.Need-enum-told
-enum-told c = search needs
-
-is-taken-requires : tie.Need-is-taken-requires
-is-taken-requires c κs = search needs
-
-ask-stage-requires : tie.Need-ask-stage-requires
-ask-stage-requires c κs = search needs
-
 returns : tie.Need-returns
 returns c = requested-taken _ (c .before .before .before .enum-told .given .1) (c .before .before .is-taken .ensures) (c .before .if1 .taken) (c .ask-stage .ensures)
 
@@ -27,12 +15,4 @@ returns-3 c = requested-untaken _ (c .before .before .enum-told .given .1) (c .b
 
 pub request-spec : {M : Type 1} → statement M
 request-spec =
-    tie.close
-    (tie.spec
-    enum-known-failure
-    enum-told
-    is-taken-requires
-    ask-stage-requires
-    returns
-    returns-2
-    returns-3)
+    tie.close (tie.spec (search needs) (search needs) (search needs) (search needs) returns returns-2 returns-3)

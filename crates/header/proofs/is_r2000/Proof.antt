@@ -4,15 +4,10 @@ use borrow.Author.Needs.{needs}
 use Rattle.header.proofs.is_r2000.Statement.{statement}
 use Rattle.header.proofs.is_r2000.Tie as tie
 
-slice-aggregate-same : tie.Need-slice-aggregate-same
-slice-aggregate-same c = search needs
-
-same-requires : tie.Need-same-requires
-same-requires c κs = search needs
-
 returns : tie.Need-returns
 unfolding isR2000
 returns c = c .same .ensures
 
 pub is-r2000-spec : {M : Type 1} → statement M
-is-r2000-spec = tie.close (tie.spec slice-aggregate-same same-requires returns)
+is-r2000-spec =
+    tie.close (tie.spec (search needs) (search needs) returns)

@@ -17,29 +17,14 @@ Inv-loop number h count i₀ i = (i ≤ 6) × (firstOf number (drop i (take (h .
 abbrev μ-loop : tie.MeasureT-loop
 μ-loop number h count i₀ i = 6 - i
 
-wide-requires : tie.Need-wide-requires Inv-loop μ-loop
-wide-requires c κs = search needs
-
 loop-holds : tie.Need-loop-holds Inv-loop μ-loop
 unfolding locatorOf
 loop-holds c = (search needs, refl)
-
-mul-l : tie.Need-mul-l Inv-loop μ-loop
-mul-l c = search needs
-
-element-copy-out-l : tie.Need-element-copy-out-l Inv-loop μ-loop
-element-copy-out-l c = search needs
 
 returns : tie.Need-returns Inv-loop μ-loop
 returns c =
     let s = c .before .before .before .before .before in
     found _ _ (s .loop .i) (search (needs, length-of)) (s .loop .inv .1) (search needs) (omega arith) (c .if2 .taken)
-
-add-i : tie.Need-add-i Inv-loop μ-loop
-add-i c = search needs
-
-loop-less : tie.Need-loop-less Inv-loop μ-loop
-loop-less c = search needs
 
 loop-again : tie.Need-loop-again Inv-loop μ-loop
 loop-again c =
@@ -54,17 +39,5 @@ returns-3 c = none _ _ (c .before .before .loop .i) (search (needs, length-of)) 
 
 pub locator-spec : {M : Type 1} → statement M
 locator-spec =
-    tie.close
-    (tie.spec
-    Inv-loop
-    μ-loop
-    wide-requires
-    loop-holds
-    mul-l
-    element-copy-out-l
-    returns
-    add-i
-    loop-less
-    loop-again
-    returns-2
-    returns-3)
+    tie.close (tie.spec Inv-loop μ-loop (search needs) loop-holds (search needs) (search needs) returns (search needs) (search needs) loop-again
+    returns-2 returns-3)

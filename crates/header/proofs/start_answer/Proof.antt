@@ -11,23 +11,14 @@ returns : tie.Need-returns
 unfolding startRefusal if_then_else_
 returns c = search cases
 
-is-outside-requires : tie.Need-is-outside-requires
-is-outside-requires c κs = search needs
-
 returns-2 : tie.Need-returns-2
 unfolding startRefusal if_then_else_
 returns-2 c = rw (le-ltb 6 _ (c .before .before .if1 .left), ← c .before .is-outside .ensures, c .if2 .taken)
-
-is-outside-requires-2 : tie.Need-is-outside-requires-2
-is-outside-requires-2 c κs = search needs
 
 returns-3 : tie.Need-returns-3
 unfolding startRefusal if_then_else_
 returns-3 c =
     rw (le-ltb 6 _ (c .before .before .before .before .if1 .left), ← c .before .before .before .is-outside .ensures, c .before .before .if2 .left, ← c .before .is-outside2 .ensures, c .if3 .taken)
-
-is-outside-requires-3 : tie.Need-is-outside-requires-3
-is-outside-requires-3 c κs = search needs
 
 returns-4 : tie.Need-returns-4
 unfolding startRefusal if_then_else_
@@ -41,13 +32,4 @@ returns-5 c =
 
 pub start-answer-spec : {M : Type 1} → statement M
 start-answer-spec =
-    tie.close
-    (tie.spec
-    returns
-    is-outside-requires
-    returns-2
-    is-outside-requires-2
-    returns-3
-    is-outside-requires-3
-    returns-4
-    returns-5)
+    tie.close (tie.spec returns (search needs) returns-2 (search needs) returns-3 (search needs) returns-4 returns-5)

@@ -20,26 +20,8 @@ Inv-loop out₀ numbers count at₀ i₀ out at i =
 abbrev μ-loop : tie.MeasureT-loop
 μ-loop out₀ numbers count at₀ i₀ out at i = 7 - i
 
-slice-write-out : tie.Need-slice-write-out Inv-loop μ-loop
-slice-write-out c = search needs
-
 loop-holds : tie.Need-loop-holds Inv-loop μ-loop
 loop-holds c = (omega arith, omega arith, omega arith, omega arith, refl, simp length-set (c .before .before .pre), sym (append-nil _))
-
-mul-put-number : tie.Need-mul-put-number Inv-loop μ-loop
-mul-put-number c = search needs
-
-array-read-put-number : tie.Need-array-read-put-number Inv-loop μ-loop
-array-read-put-number c = search needs
-
-put-number-requires : tie.Need-put-number-requires Inv-loop μ-loop
-put-number-requires c κs = search needs
-
-add-i : tie.Need-add-i Inv-loop μ-loop
-add-i c = search needs
-
-loop-less : tie.Need-loop-less Inv-loop μ-loop
-loop-less c = search needs
 
 loop-again : tie.Need-loop-again Inv-loop μ-loop
 loop-again c =
@@ -57,12 +39,6 @@ loop-again c =
       line-next (a .line .numbers) (take 1 (set (a .out .now) 0 (a .line .letter))) (l .out) (p .last .0) (l .at) (p .result) (l .i)
           (omega arith) (l .inv .6) (p .ensures .0),
     )
-
-slice-write-out-2 : tie.Need-slice-write-out-2 Inv-loop μ-loop
-slice-write-out-2 c = search needs
-
-add-result : tie.Need-add-result Inv-loop μ-loop
-add-result c = search needs
 
 same-length : tie.Need-same-length Inv-loop μ-loop
 same-length c = simp length-set (simp length-set at (c .before .loop .inv .4))
@@ -84,19 +60,5 @@ returns c =
 
 pub put-spec : {M : Type 1} → statement M
 put-spec =
-    tie.close
-    (tie.spec
-    Inv-loop
-    μ-loop
-    slice-write-out
-    loop-holds
-    mul-put-number
-    array-read-put-number
-    put-number-requires
-    add-i
-    loop-less
-    loop-again
-    slice-write-out-2
-    add-result
-    same-length
-    returns)
+    tie.close (tie.spec Inv-loop μ-loop (search needs) loop-holds (search needs) (search needs) (search needs) (search needs) (search needs)
+    loop-again (search needs) (search needs) same-length returns)

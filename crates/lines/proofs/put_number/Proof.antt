@@ -6,29 +6,11 @@ use Rattle.lines.proofs.Laws.{at-most-twenty, put-law}
 use Rattle.lines.proofs.put_number.Statement.{statement}
 use Rattle.lines.proofs.put_number.Tie as tie
 
-decimal-requires : tie.Need-decimal-requires
-decimal-requires c κs = search needs
-
-slice-write-out : tie.Need-slice-write-out
-slice-write-out c = search needs
-
-add-copy-in : tie.Need-add-copy-in
-add-copy-in c = search needs
-
-array-share-prefix-text : tie.Need-array-share-prefix-text
-array-share-prefix-text c = search needs
-
-slice-aggregate-copy-in : tie.Need-slice-aggregate-copy-in
-slice-aggregate-copy-in c = search needs
-
 copy-in-requires : tie.Need-copy-in-requires
 copy-in-requires c κs =
     let d = c .before .before .decimal in
     let a = c .before .before .before .before .before in
     simp length-set (omega (arith, at-most-twenty (a .args .n) (d .result) (omega arith) (d .ensures .1 .0), d .ensures .0 .1))
-
-add-result : tie.Need-add-result
-add-result c = search needs
 
 add-result-2 : tie.Need-add-result-2
 add-result-2 c =
@@ -51,15 +33,5 @@ returns c =
 
 pub put-number-spec : {M : Type 1} → statement M
 put-number-spec =
-    tie.close
-    (tie.spec
-    decimal-requires
-    slice-write-out
-    add-copy-in
-    array-share-prefix-text
-    slice-aggregate-copy-in
-    copy-in-requires
-    add-result
-    add-result-2
-    same-length
-    returns)
+    tie.close (tie.spec (search needs) (search needs) (search needs) (search needs) (search needs) copy-in-requires (search needs) add-result-2
+    same-length returns)

@@ -17,9 +17,6 @@ returns : tie.Need-returns
 unfolding feedObject if_then_else_
 returns c = rw (eq-eqb _ 0 (c .before .if1 .taken)) (c .feed-word .ensures)
 
-cast-if2 : tie.Need-cast-if2
-cast-if2 c = search needs
-
 add-if2 : tie.Need-add-if2
 add-if2 c = omega (arith, span-small _ (c .before .before .before .before .before .pre .0))
 
@@ -44,13 +41,4 @@ returns-3 c = rw (ne-eqb _ 0 (c .before .before .before .before .before .if1 .le
 
 pub feed-object-spec : {M : Type 1} → statement M
 feed-object-spec =
-    tie.close
-    (tie.spec
-    feed-word-requires
-    returns
-    cast-if2
-    add-if2
-    feed-object-data-requires
-    returns-2
-    feed-object-crc-requires
-    returns-3)
+    tie.close (tie.spec feed-word-requires returns (search needs) add-if2 feed-object-data-requires returns-2 feed-object-crc-requires returns-3)

@@ -10,31 +10,16 @@ use borrow.Author.Needs.{needs}
 use Rattle.object.proofs.feed_word.Statement.{statement}
 use Rattle.object.proofs.feed_word.Tie as tie
 
-crc8-requires : tie.Need-crc8-requires
-crc8-requires c κs = search needs
-
-slice-aggregate-copy-in : tie.Need-slice-aggregate-copy-in
-slice-aggregate-copy-in c = search needs
-
-cast-copy-in : tie.Need-cast-copy-in
-cast-copy-in c = search needs
-
 copy-in-requires : tie.Need-copy-in-requires
 copy-in-requires c κs =
     let a = c .before .before .before .before .before in
     let four : length (a .args .s .field) ≡ 4 = search needs in
     omega (arith, a .pre .2)
 
-cast-done : tie.Need-cast-done
-cast-done c = search needs
-
 add-done : tie.Need-add-done
 add-done c =
     let a = c .before .before .before .before .before .before .before .before in
     omega (arith, word-end (a .args .s) (a .pre .0) (a .pre .1) _ (a .pre .2))
-
-word-in-requires : tie.Need-word-in-requires
-word-in-requires c κs = search needs
 
 settle-word-requires : tie.Need-settle-word-requires
 settle-word-requires c κs =
@@ -51,20 +36,10 @@ returns c =
 returns-2 : tie.Need-returns-2
 unfolding feedWord if_then_else_
 returns-2 c =
-    let at = c .before .before .before .before .before .before in
-    rw (← at .before .before .before .before .crc8 .ensures, ← at .copy-in .ensures) (simp (ne-eqb _ _ (c .before .before .before .if1 .left)))
+    let at = c .before .before .before .before in
+    rw (← at .before .before .before .before .crc8 .ensures, ← at .copy-in .ensures, ne-eqb _ _ (c .before .if1 .left)) (c .go-on .ensures)
 
 pub feed-word-spec : {M : Type 1} → statement M
 feed-word-spec =
-    tie.close
-    (tie.spec
-    crc8-requires
-    slice-aggregate-copy-in
-    cast-copy-in
-    copy-in-requires
-    cast-done
-    add-done
-    word-in-requires
-    settle-word-requires
-    returns
-    returns-2)
+    tie.close (tie.spec (search needs) (λ c. search needs) (search needs) copy-in-requires (search needs) add-done (search needs) settle-word-requires
+    returns (search needs) returns-2)

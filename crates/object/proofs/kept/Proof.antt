@@ -8,31 +8,16 @@ use borrow.Author.Needs.{needs}
 use Rattle.object.proofs.kept.Statement.{statement}
 use Rattle.object.proofs.kept.Tie as tie
 
-sub-room : tie.Need-sub-room
-sub-room c = search needs
-
-slice-aggregate-copy-in : tie.Need-slice-aggregate-copy-in
-slice-aggregate-copy-in c = search needs
-
-copy-in-requires : tie.Need-copy-in-requires
-copy-in-requires c κs = search needs
-
 returns : tie.Need-returns
 returns c =
     let a = c .before .before .before .before .before .before .args in
     rw (take-all (16 - a .at) (a .piece .now) (omega arith)) (c .before .copy-in .ensures)
-
-slice-aggregate-copy-in-2 : tie.Need-slice-aggregate-copy-in-2
-slice-aggregate-copy-in-2 c = search needs
 
 slice-aggregate-copy-in-3 : tie.Need-slice-aggregate-copy-in-3
 slice-aggregate-copy-in-3 c = simp length-take (omega arith)
 
 copy-in-requires-2 : tie.Need-copy-in-requires-2
 copy-in-requires-2 c κs = simp length-take (search needs)
-
-returns-2 : tie.Need-returns-2
-returns-2 c = search needs
 
 returns-3 : tie.Need-returns-3
 returns-3 c =
@@ -41,14 +26,5 @@ returns-3 c =
 
 pub kept-spec : {M : Type 1} → statement M
 kept-spec =
-    tie.close
-    (tie.spec
-    sub-room
-    slice-aggregate-copy-in
-    copy-in-requires
-    returns
-    slice-aggregate-copy-in-2
-    slice-aggregate-copy-in-3
-    copy-in-requires-2
-    returns-2
-    returns-3)
+    tie.close (tie.spec (search needs) (λ c. search needs) (search needs) returns (λ c. search needs) slice-aggregate-copy-in-3 copy-in-requires-2
+    (λ c. search needs) returns-3)

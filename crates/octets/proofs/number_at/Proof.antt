@@ -21,30 +21,15 @@ loop-holds c =
     let z : a .args .n - a .args .n ≡ 0 = omega arith in
     (omega arith, sym (little-none (a .args .s .now) (a .args .at) (a .args .n) (a .pre .0)), rw z (omega arith))
 
-sub-i : tie.Need-sub-i Inv-loop μ-loop
-sub-i c = search needs
-
 mul-value : tie.Need-mul-value Inv-loop μ-loop
 mul-value c =
     let at = c .before .loop in
     omega (arith, seven-lt (at .value) (c .before .before .before .args .n - at .i) (at .inv .2) (omega arith))
 
-add-wide : tie.Need-add-wide Inv-loop μ-loop
-add-wide c = search needs
-
-shared-slice-read-wide : tie.Need-shared-slice-read-wide Inv-loop μ-loop
-shared-slice-read-wide c = search needs
-
-wide-requires : tie.Need-wide-requires Inv-loop μ-loop
-wide-requires c κs = search needs
-
 add-value : tie.Need-add-value Inv-loop μ-loop
 add-value c =
     let at = c .before .before .before .loop in
     omega (arith, seven-lt (at .value) (c .before .before .before .before .before .args .n - at .i) (at .inv .2) (omega arith))
-
-loop-less : tie.Need-loop-less Inv-loop μ-loop
-loop-less c = search needs
 
 loop-again : tie.Need-loop-again Inv-loop μ-loop
 loop-again c =
@@ -54,9 +39,11 @@ loop-again c =
     let i = at .i in
     let e : suc (i - 1) ≡ i = omega arith in
     let k : n - (i - 1) ≡ suc (n - i) = omega arith in
-    let next = rw e at (little-next (a .args .s .now) (a .args .at) n (a .pre .0) (i - 1) (omega arith)) in
-    (omega arith, omega (arith, at .inv .1, next, c .wide .ensures .0),
-    rw k (next-lt (at .value) (c .wide .result) (n - i) (at .inv .2) (c .wide .ensures .1)))
+    let next = rw e at (little-next (a .args .s .now) (a .args .at) n (a .pre .0) (i - 1) (omega arith)) in (
+      omega arith,
+      omega (arith, at .inv .1, next, c .wide .ensures .0),
+      rw k (next-lt (at .value) (c .wide .result) (n - i) (at .inv .2) (c .wide .ensures .1)),
+    )
 
 returns : tie.Need-returns Inv-loop μ-loop
 returns c =
@@ -67,17 +54,5 @@ returns c =
 
 pub number-at-spec : {M : Type 1} → statement M
 number-at-spec =
-    tie.close
-    (tie.spec
-    Inv-loop
-    μ-loop
-    loop-holds
-    sub-i
-    mul-value
-    add-wide
-    shared-slice-read-wide
-    wide-requires
-    add-value
-    loop-less
-    loop-again
-    returns)
+    tie.close (tie.spec Inv-loop μ-loop loop-holds (search needs) mul-value (search needs) (search needs) (search needs) add-value (search needs)
+    loop-again returns)

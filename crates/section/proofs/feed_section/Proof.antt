@@ -7,12 +7,6 @@ use Rattle.section.proofs.Demand.{in-start, in-size, in-data, in-crc, i
 use Rattle.section.proofs.feed_section.Statement.{statement}
 use Rattle.section.proofs.feed_section.Tie as tie
 
-cast-d : tie.Need-cast-d
-cast-d c = search needs
-
-cast-n : tie.Need-cast-n
-cast-n c = search needs
-
 feed-section-start-requires : tie.Need-feed-section-start-requires
 feed-section-start-requires c κs =
     let p = c .before .before .before .before .pre in
@@ -31,9 +25,6 @@ returns-2 : tie.Need-returns-2
 unfolding feedSection if_then_else_
 returns-2 c = search cases
 
-add-if3 : tie.Need-add-if3
-add-if3 c = search needs
-
 feed-section-data-requires : tie.Need-feed-section-data-requires
 feed-section-data-requires c κs =
     let p = c .before .before .before .before .before .before .pre in
@@ -42,9 +33,6 @@ feed-section-data-requires c κs =
 returns-3 : tie.Need-returns-3
 unfolding feedSection if_then_else_
 returns-3 c = search cases
-
-add-if4 : tie.Need-add-if4
-add-if4 c = search needs
 
 feed-section-crc-requires : tie.Need-feed-section-crc-requires
 feed-section-crc-requires c κs =
@@ -66,19 +54,5 @@ returns-5 c = search cases
 
 pub feed-section-spec : {M : Type 1} → statement M
 feed-section-spec =
-    tie.close
-    (tie.spec
-    cast-d
-    cast-n
-    feed-section-start-requires
-    returns
-    feed-section-size-requires
-    returns-2
-    add-if3
-    feed-section-data-requires
-    returns-3
-    add-if4
-    feed-section-crc-requires
-    returns-4
-    feed-section-end-requires
-    returns-5)
+    tie.close (tie.spec (search needs) (search needs) feed-section-start-requires returns feed-section-size-requires returns-2 (search needs)
+    feed-section-data-requires returns-3 (search needs) feed-section-crc-requires returns-4 feed-section-end-requires returns-5)

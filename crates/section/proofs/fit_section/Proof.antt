@@ -6,21 +6,6 @@ use Rattle.section.proofs.Fitness.{fit-section-shows}
 use Rattle.section.proofs.fit_section.Statement.{statement}
 use Rattle.section.proofs.fit_section.Tie as tie
 
-section-requires : tie.Need-section-requires
-section-requires c κs = search needs
-
-no-object-requires : tie.Need-no-object-requires
-no-object-requires c κs = search needs
-
-no-entry-requires : tie.Need-no-entry-requires
-no-entry-requires c κs = search needs
-
-section-done-requires : tie.Need-section-done-requires
-section-done-requires c κs = search needs
-
-cast-result : tie.Need-cast-result
-cast-result c = search needs
-
 returns : tie.Need-returns
 unfolding fitSection
 returns c =
@@ -36,11 +21,4 @@ returns c =
 
 pub fit-section-spec : {M : Type 1} → statement M
 fit-section-spec =
-    tie.close
-    (tie.spec
-    section-requires
-    no-object-requires
-    no-entry-requires
-    section-done-requires
-    cast-result
-    returns)
+    tie.close (tie.spec (search needs) (search needs) (search needs) (search needs) (search needs) returns)

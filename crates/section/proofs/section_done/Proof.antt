@@ -10,12 +10,10 @@ returns : tie.Need-returns
 unfolding sectionDone if_then_else_
 returns c = search cases
 
-add-result : tie.Need-add-result
-add-result c = search needs
-
 returns-2 : tie.Need-returns-2
 unfolding sectionDone if_then_else_
 returns-2 c = search cases
 
 pub section-done-spec : {M : Type 1} → statement M
-section-done-spec = tie.close (tie.spec returns add-result returns-2)
+section-done-spec =
+    tie.close (tie.spec returns (search needs) returns-2)

@@ -14,28 +14,13 @@ returns-2 : tie.Need-returns-2
 unfolding sectionEnd if_then_else_
 returns-2 c = search cases
 
-add-if3 : tie.Need-add-if3
-add-if3 c = search needs
-
-add-result : tie.Need-add-result
-add-result c = search needs
-
 returns-3 : tie.Need-returns-3
 unfolding sectionEnd if_then_else_
 returns-3 c = search cases
 
-add-if4 : tie.Need-add-if4
-add-if4 c = search needs
-
-add-result-2 : tie.Need-add-result-2
-add-result-2 c = search needs
-
 returns-4 : tie.Need-returns-4
 unfolding sectionEnd if_then_else_
 returns-4 c = search cases
-
-add-result-3 : tie.Need-add-result-3
-add-result-3 c = search needs
 
 returns-5 : tie.Need-returns-5
 unfolding sectionEnd if_then_else_
@@ -43,15 +28,4 @@ returns-5 c = search cases
 
 pub section-end-spec : {M : Type 1} → statement M
 section-end-spec =
-    tie.close
-    (tie.spec
-    returns
-    returns-2
-    add-if3
-    add-result
-    returns-3
-    add-if4
-    add-result-2
-    returns-4
-    add-result-3
-    returns-5)
+    tie.close (tie.spec returns returns-2 (search needs) (search needs) returns-3 (search needs) (search needs) returns-4 (search needs) returns-5)

@@ -7,15 +7,6 @@ use borrow.Author.Needs.{needs}
 use Rattle.chunk.proofs.settle.number_in.Statement.{statement}
 use Rattle.chunk.proofs.settle.number_in.Tie as tie
 
-array-read-be16 : tie.Need-array-read-be16
-array-read-be16 c = search needs
-
-array-read-be16-2 : tie.Need-array-read-be16-2
-array-read-be16-2 c = search needs
-
-be16-requires : tie.Need-be16-requires
-be16-requires c κs = search needs
-
 returns : tie.Need-returns
 returns c =
     let field = c .before .args .t1 in
@@ -23,4 +14,5 @@ returns c =
     rw (take-suc field 1 0 (omega arith), take-suc field 0 0 (omega arith)) (c .be16 .ensures)
 
 pub number-in-spec : {M : Type 1} → statement M
-number-in-spec = tie.close (tie.spec array-read-be16 array-read-be16-2 be16-requires returns)
+number-in-spec =
+    tie.close (tie.spec (search needs) (search needs) (search needs) returns)

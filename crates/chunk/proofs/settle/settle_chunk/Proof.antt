@@ -11,18 +11,9 @@ use borrow.Author.Needs.{needs}
 use Rattle.chunk.proofs.settle.settle_chunk.Statement.{statement}
 use Rattle.chunk.proofs.settle.settle_chunk.Tie as tie
 
-map-end-requires : tie.Need-map-end-requires
-map-end-requires c κs = search needs
-
-add-if2 : tie.Need-add-if2
-add-if2 c = search needs
-
 returns : tie.Need-returns
 unfolding settleChunk if_then_else_
 returns c = rw (← c .before .before .before .before .before .map-end .ensures .0) (search cases)
-
-fell-requires : tie.Need-fell-requires
-fell-requires c κs = search needs
 
 returns-2 : tie.Need-returns-2
 unfolding settleChunk if_then_else_
@@ -35,14 +26,10 @@ add-t22 c =
     let e : mapEnd (c .before .before .before .before .args .s .header) < 2 ^ 33 = search (needs, map-end-below) in
     omega (arith, c .before .before .before .before .pre .room)
 
-add-t26 : tie.Need-add-t26
-add-t26 c = search needs
-
 returns-3 : tie.Need-returns-3
 unfolding settleChunk if_then_else_
 returns-3 c = search cases
 
 pub settle-chunk-spec : {M : Type 1} → statement M
 settle-chunk-spec =
-    tie.close
-    (tie.spec map-end-requires add-if2 returns fell-requires returns-2 add-t22 add-t26 returns-3)
+    tie.close (tie.spec (search needs) (search needs) returns (search needs) returns-2 add-t22 (search needs) returns-3)

@@ -6,19 +6,14 @@ use borrow.Author.Needs.{needs}
 use Rattle.chunk.proofs.settle.settle_chunk_crc.Statement.{statement}
 use Rattle.chunk.proofs.settle.settle_chunk_crc.Tie as tie
 
-settle-chunk-requires : tie.Need-settle-chunk-requires
-settle-chunk-requires c κs = search needs
-
 returns : tie.Need-returns
 unfolding settleChunkCrc if_then_else_
 returns c = simp (eq-eqb _ _ (c .before .if1 .taken)) (c .settle-chunk .ensures)
-
-fell-requires : tie.Need-fell-requires
-fell-requires c κs = search needs
 
 returns-2 : tie.Need-returns-2
 unfolding settleChunkCrc if_then_else_
 returns-2 c = simp (ne-eqb _ _ (c .before .if1 .left)) (c .fell .ensures)
 
 pub settle-chunk-crc-spec : {M : Type 1} → statement M
-settle-chunk-crc-spec = tie.close (tie.spec settle-chunk-requires returns fell-requires returns-2)
+settle-chunk-crc-spec =
+    tie.close (tie.spec (λ c κs. search needs) returns (search needs) returns-2)

@@ -4,9 +4,6 @@ use borrow.Author.Needs.{needs}
 use Rattle.flat.proofs.asking.ask_chunk.Statement.{statement}
 use Rattle.flat.proofs.asking.ask_chunk.Tie as tie
 
-fit-chunk-requires : tie.Need-fit-chunk-requires
-fit-chunk-requires c κs = search needs
-
 request-chunk-requires : tie.Need-request-chunk-requires
 request-chunk-requires c κs = c .before .fit-chunk .ensures .1 (c .if1 .taken)
 
@@ -17,4 +14,5 @@ returns-2 : tie.Need-returns-2
 returns-2 c = asked-unfit _ (c .before .fit-chunk .ensures .0) (c .if1 .left)
 
 pub ask-chunk-spec : {M : Type 1} → statement M
-ask-chunk-spec = tie.close (tie.spec fit-chunk-requires request-chunk-requires returns returns-2)
+ask-chunk-spec =
+    tie.close (tie.spec (search needs) request-chunk-requires returns returns-2)

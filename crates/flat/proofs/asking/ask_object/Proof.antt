@@ -4,9 +4,6 @@ use borrow.Author.Needs.{needs}
 use Rattle.flat.proofs.asking.ask_object.Statement.{statement}
 use Rattle.flat.proofs.asking.ask_object.Tie as tie
 
-fit-object-requires : tie.Need-fit-object-requires
-fit-object-requires c κs = search needs
-
 request-object-requires : tie.Need-request-object-requires
 request-object-requires c κs = c .before .fit-object .ensures .1 (c .if1 .taken)
 
@@ -18,4 +15,4 @@ returns-2 c = asked-unfit _ (c .before .fit-object .ensures .0) (c .if1 .left)
 
 pub ask-object-spec : {M : Type 1} → statement M
 ask-object-spec =
-    tie.close (tie.spec fit-object-requires request-object-requires returns returns-2)
+    tie.close (tie.spec (search needs) request-object-requires returns returns-2)

@@ -4,9 +4,6 @@ use borrow.Author.Needs.{needs}
 use Rattle.flat.proofs.asking.ask_section.Statement.{statement}
 use Rattle.flat.proofs.asking.ask_section.Tie as tie
 
-fit-section-requires : tie.Need-fit-section-requires
-fit-section-requires c κs = search needs
-
 request-section-requires : tie.Need-request-section-requires
 request-section-requires c κs = c .before .fit-section .ensures .1 (c .if1 .taken)
 
@@ -18,4 +15,4 @@ returns-2 c = asked-unfit _ (c .before .fit-section .ensures .0) (c .if1 .left)
 
 pub ask-section-spec : {M : Type 1} → statement M
 ask-section-spec =
-    tie.close (tie.spec fit-section-requires request-section-requires returns returns-2)
+    tie.close (tie.spec (search needs) request-section-requires returns returns-2)

@@ -8,82 +8,32 @@ use borrow.Author.Needs.{needs}
 use Rattle.flat.proofs.asking.ask_stage.Statement.{statement}
 use Rattle.flat.proofs.asking.ask_stage.Tie as tie
 
-enum-told : tie.Need-enum-told
-enum-told c = search needs
-
-ask-section-requires : tie.Need-ask-section-requires
-ask-section-requires c κs = search needs
-
-enum-told-2 : tie.Need-enum-told-2
-enum-told-2 c = search needs
-
-ask-section-requires-2 : tie.Need-ask-section-requires-2
-ask-section-requires-2 c κs = search needs
-
-enum-told-3 : tie.Need-enum-told-3
-enum-told-3 c = search needs
-
-ask-chunk-requires : tie.Need-ask-chunk-requires
-ask-chunk-requires c κs = search needs
-
-enum-told-4 : tie.Need-enum-told-4
-enum-told-4 c = search needs
-
-ask-entry-requires : tie.Need-ask-entry-requires
-ask-entry-requires c κs = search needs
-
-enum-told-5 : tie.Need-enum-told-5
-enum-told-5 c = search needs
-
-ask-object-requires : tie.Need-ask-object-requires
-ask-object-requires c κs = search needs
-
-enum-told-6 : tie.Need-enum-told-6
-enum-told-6 c = search needs
-
 returns : tie.Need-returns
-returns c = 
+returns c =
     c .ask-section .ensures ∙ ap (λ (g : Stage). askedIf (fitAt g (c .before .before .before .args .s)) (requestAt g (c .before .before .before .args .s))) (sym (c .before .enum-told .given .1))
 
 returns-2 : tie.Need-returns-2
-returns-2 c = 
+returns-2 c =
     c .ask-section2 .ensures ∙ ap (λ (g : Stage). askedIf (fitAt g (c .before .before .before .args .s)) (requestAt g (c .before .before .before .args .s))) (sym (c .before .enum-told2 .given .1))
 
 returns-3 : tie.Need-returns-3
-returns-3 c = 
+returns-3 c =
     c .ask-chunk .ensures ∙ ap (λ (g : Stage). askedIf (fitAt g (c .before .before .before .args .s)) (requestAt g (c .before .before .before .args .s))) (sym (c .before .enum-told3 .given .1))
 
 returns-4 : tie.Need-returns-4
-returns-4 c = 
+returns-4 c =
     c .ask-entry .ensures ∙ ap (λ (g : Stage). askedIf (fitAt g (c .before .before .before .args .s)) (requestAt g (c .before .before .before .args .s))) (sym (c .before .enum-told4 .given .1))
 
 returns-5 : tie.Need-returns-5
-returns-5 c = 
+returns-5 c =
     c .ask-object .ensures ∙ ap (λ (g : Stage). askedIf (fitAt g (c .before .before .before .args .s)) (requestAt g (c .before .before .before .args .s))) (sym (c .before .enum-told5 .given .1))
 
 returns-6 : tie.Need-returns-6
 unfolding if_then_else_
-returns-6 c = 
+returns-6 c =
     ap (λ (g : Stage). askedIf (fitAt g (c .before .before .args .s)) (requestAt g (c .before .before .args .s))) (sym (c .enum-told6 .given .1))
 
 pub ask-stage-spec : {M : Type 1} → statement M
 ask-stage-spec =
-    tie.close
-    (tie.spec
-    enum-told
-    ask-section-requires
-    enum-told-2
-    ask-section-requires-2
-    enum-told-3
-    ask-chunk-requires
-    enum-told-4
-    ask-entry-requires
-    enum-told-5
-    ask-object-requires
-    enum-told-6
-    returns
-    returns-2
-    returns-3
-    returns-4
-    returns-5
-    returns-6)
+    tie.close (tie.spec (search needs) (search needs) (search needs) (search needs) (search needs) (search needs) (search needs) (search needs)
+    (search needs) (search needs) (search needs) returns returns-2 returns-3 returns-4 returns-5 returns-6)

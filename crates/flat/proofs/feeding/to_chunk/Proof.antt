@@ -5,44 +5,26 @@ use borrow.Author.Needs.{needs}
 use Rattle.flat.proofs.feeding.to_chunk.Statement.{statement}
 use Rattle.flat.proofs.feeding.to_chunk.Tie as tie
 
-fit-chunk-requires : tie.Need-fit-chunk-requires
-fit-chunk-requires c κs = search needs
-
 request-chunk-requires : tie.Need-request-chunk-requires
 request-chunk-requires c κs = c .before .fit-chunk .ensures .1 (c .if1 .taken)
 
-offer-of-requires : tie.Need-offer-of-requires
-offer-of-requires c κs = search needs
-
-enum-told : tie.Need-enum-told
-enum-told c = search needs
-
 feed-chunk-requires : tie.Need-feed-chunk-requires
-feed-chunk-requires c κs = 
+feed-chunk-requires c κs =
     (c .before .before .before .before .before .fit-chunk .ensures .1 (c .before .before .before .before .if1 .taken), taken-fits (c .before .before .offer-of .result) (c .before .before .before .request-chunk .result) _ (c .enum-told .given .1) (c .before .before .offer-of .ensures .1) (c .before .before .before .request-chunk .ensures) .1)
 
-enum-known-o : tie.Need-enum-known-o
-enum-known-o c = search needs
-
-refused-requires : tie.Need-refused-requires
-refused-requires c κs = search needs
-
 returns : tie.Need-returns
-returns c = 
+returns c =
     let a = c .before .before .before .before .before .before .before .before in
     fed-taken (a .args .s) (a .args .offset) (a .args .piece .now) (feedChunk (a .args .s) (a .args .piece .now))
     (c .before .before .before .before .before .before .fit-chunk .ensures .0) (c .before .before .before .before .before .if1 .taken) (c .before .before .before .before .request-chunk .ensures) (c .before .before .before .offer-of .ensures .0) (c .before .enum-told .given .1)
     (c .feed-chunk .ensures)
 
 returns-2 : tie.Need-returns-2
-returns-2 c = 
+returns-2 c =
     let a = c .before .before .before .before .before .before .before .before .before in
     fed-refused (a .args .s) (a .args .offset) (a .args .piece .now) (feedChunk (a .args .s) (a .args .piece .now))
     (c .before .before .before .before .before .before .before .fit-chunk .ensures .0) (c .before .before .before .before .before .before .if1 .taken) (c .before .before .before .before .before .request-chunk .ensures) (c .before .before .before .before .offer-of .ensures .0) (c .before .before .o .given .1)
     (c .refused .ensures)
-
-refused-requires-2 : tie.Need-refused-requires-2
-refused-requires-2 c κs = search needs
 
 returns-3 : tie.Need-returns-3
 returns-3 c =
@@ -51,16 +33,5 @@ returns-3 c =
 
 pub to-chunk-spec : {M : Type 1} → statement M
 to-chunk-spec =
-    tie.close
-    (tie.spec
-    fit-chunk-requires
-    request-chunk-requires
-    offer-of-requires
-    enum-told
-    feed-chunk-requires
-    enum-known-o
-    refused-requires
-    returns
-    returns-2
-    refused-requires-2
-    returns-3)
+    tie.close (tie.spec (search needs) request-chunk-requires (search needs) (search needs) feed-chunk-requires (search needs) (search needs) returns
+    returns-2 (search needs) returns-3)

@@ -7,47 +7,26 @@ use borrow.Author.Needs.{needs}
 use Rattle.flat.proofs.feeding.to_entry.Statement.{statement}
 use Rattle.flat.proofs.feeding.to_entry.Tie as tie
 
-fit-entry-requires : tie.Need-fit-entry-requires
-fit-entry-requires c κs = search needs
-
-request-entry-requires : tie.Need-request-entry-requires
-request-entry-requires c κs = search needs
-
-offer-of-requires : tie.Need-offer-of-requires
-offer-of-requires c κs = search needs
-
-enum-told : tie.Need-enum-told
-enum-told c = search needs
-
 shared-slice-read-feed-entry : tie.Need-shared-slice-read-feed-entry
-shared-slice-read-feed-entry c = 
+shared-slice-read-feed-entry c =
     omega (arith, taken-fits (c .before .before .before .offer-of .result) (c .before .before .before .before .request-entry .result) _ (c .before .enum-told .given .1) (c .before .before .before .offer-of .ensures .1) (c .before .before .before .before .request-entry .ensures) .0)
 
 feed-entry-requires : tie.Need-feed-entry-requires
 feed-entry-requires c κs = c .before .before .before .before .before .before .fit-entry .ensures .1 (c .before .before .before .before .before .if1 .taken)
 
-enum-known-o : tie.Need-enum-known-o
-enum-known-o c = search needs
-
-refused-requires : tie.Need-refused-requires
-refused-requires c κs = search needs
-
 returns : tie.Need-returns
-returns c = 
+returns c =
     let a = c .before .before .before .before .before .before .before .before .before in
     fed-taken (a .args .s) (a .args .offset) (a .args .piece .now) (feedEntry (a .args .s) (getD (a .args .piece .now) 0 0))
     (c .before .before .before .before .before .before .before .fit-entry .ensures .0) (c .before .before .before .before .before .before .if1 .taken) (c .before .before .before .before .before .request-entry .ensures) (c .before .before .before .before .offer-of .ensures .0) (c .before .before .enum-told .given .1)
     (c .feed-entry .ensures)
 
 returns-2 : tie.Need-returns-2
-returns-2 c = 
+returns-2 c =
     let a = c .before .before .before .before .before .before .before .before .before in
     fed-refused (a .args .s) (a .args .offset) (a .args .piece .now) (feedEntry (a .args .s) (getD (a .args .piece .now) 0 0))
     (c .before .before .before .before .before .before .before .fit-entry .ensures .0) (c .before .before .before .before .before .before .if1 .taken) (c .before .before .before .before .before .request-entry .ensures) (c .before .before .before .before .offer-of .ensures .0) (c .before .before .o .given .1)
     (c .refused .ensures)
-
-refused-requires-2 : tie.Need-refused-requires-2
-refused-requires-2 c κs = search needs
 
 returns-3 : tie.Need-returns-3
 returns-3 c =
@@ -56,17 +35,5 @@ returns-3 c =
 
 pub to-entry-spec : {M : Type 1} → statement M
 to-entry-spec =
-    tie.close
-    (tie.spec
-    fit-entry-requires
-    request-entry-requires
-    offer-of-requires
-    enum-told
-    shared-slice-read-feed-entry
-    feed-entry-requires
-    enum-known-o
-    refused-requires
-    returns
-    returns-2
-    refused-requires-2
-    returns-3)
+    tie.close (tie.spec (search needs) (search needs) (search needs) (search needs) shared-slice-read-feed-entry feed-entry-requires (search needs)
+    (search needs) returns returns-2 (search needs) returns-3)

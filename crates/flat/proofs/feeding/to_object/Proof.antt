@@ -5,44 +5,26 @@ use borrow.Author.Needs.{needs}
 use Rattle.flat.proofs.feeding.to_object.Statement.{statement}
 use Rattle.flat.proofs.feeding.to_object.Tie as tie
 
-fit-object-requires : tie.Need-fit-object-requires
-fit-object-requires c κs = search needs
-
 request-object-requires : tie.Need-request-object-requires
 request-object-requires c κs = c .before .fit-object .ensures .1 (c .if1 .taken)
 
-offer-of-requires : tie.Need-offer-of-requires
-offer-of-requires c κs = search needs
-
-enum-told : tie.Need-enum-told
-enum-told c = search needs
-
 feed-object-requires : tie.Need-feed-object-requires
-feed-object-requires c κs = 
+feed-object-requires c κs =
     (c .before .before .before .before .before .fit-object .ensures .1 (c .before .before .before .before .if1 .taken), taken-fits (c .before .before .offer-of .result) (c .before .before .before .request-object .result) _ (c .enum-told .given .1) (c .before .before .offer-of .ensures .1) (c .before .before .before .request-object .ensures) .1)
 
-enum-known-o : tie.Need-enum-known-o
-enum-known-o c = search needs
-
-refused-requires : tie.Need-refused-requires
-refused-requires c κs = search needs
-
 returns : tie.Need-returns
-returns c = 
+returns c =
     let a = c .before .before .before .before .before .before .before .before in
     fed-taken (a .args .s) (a .args .offset) (a .args .piece .now) (feedObject (a .args .s) (a .args .piece .now))
     (c .before .before .before .before .before .before .fit-object .ensures .0) (c .before .before .before .before .before .if1 .taken) (c .before .before .before .before .request-object .ensures) (c .before .before .before .offer-of .ensures .0) (c .before .enum-told .given .1)
     (c .feed-object .ensures)
 
 returns-2 : tie.Need-returns-2
-returns-2 c = 
+returns-2 c =
     let a = c .before .before .before .before .before .before .before .before .before in
     fed-refused (a .args .s) (a .args .offset) (a .args .piece .now) (feedObject (a .args .s) (a .args .piece .now))
     (c .before .before .before .before .before .before .before .fit-object .ensures .0) (c .before .before .before .before .before .before .if1 .taken) (c .before .before .before .before .before .request-object .ensures) (c .before .before .before .before .offer-of .ensures .0) (c .before .before .o .given .1)
     (c .refused .ensures)
-
-refused-requires-2 : tie.Need-refused-requires-2
-refused-requires-2 c κs = search needs
 
 returns-3 : tie.Need-returns-3
 returns-3 c =
@@ -51,16 +33,5 @@ returns-3 c =
 
 pub to-object-spec : {M : Type 1} → statement M
 to-object-spec =
-    tie.close
-    (tie.spec
-    fit-object-requires
-    request-object-requires
-    offer-of-requires
-    enum-told
-    feed-object-requires
-    enum-known-o
-    refused-requires
-    returns
-    returns-2
-    refused-requires-2
-    returns-3)
+    tie.close (tie.spec (search needs) request-object-requires (search needs) (search needs) feed-object-requires (search needs) (search needs)
+    returns returns-2 (search needs) returns-3)

@@ -6,81 +6,31 @@ use borrow.Author.Needs.{needs}
 use Rattle.flat.proofs.tests.fit_at.Statement.{statement}
 use Rattle.flat.proofs.tests.fit_at.Tie as tie
 
-enum-told : tie.Need-enum-told
-enum-told c = search needs
-
-fit-section-requires : tie.Need-fit-section-requires
-fit-section-requires c κs = search needs
-
-enum-told-2 : tie.Need-enum-told-2
-enum-told-2 c = search needs
-
-fit-section-requires-2 : tie.Need-fit-section-requires-2
-fit-section-requires-2 c κs = search needs
-
-enum-told-3 : tie.Need-enum-told-3
-enum-told-3 c = search needs
-
-fit-chunk-requires : tie.Need-fit-chunk-requires
-fit-chunk-requires c κs = search needs
-
-enum-told-4 : tie.Need-enum-told-4
-enum-told-4 c = search needs
-
-fit-entry-requires : tie.Need-fit-entry-requires
-fit-entry-requires c κs = search needs
-
-enum-told-5 : tie.Need-enum-told-5
-enum-told-5 c = search needs
-
-fit-object-requires : tie.Need-fit-object-requires
-fit-object-requires c κs = search needs
-
-enum-told-6 : tie.Need-enum-told-6
-enum-told-6 c = search needs
-
 returns : tie.Need-returns
-returns c = 
+returns c =
     c .fit-section .ensures .0 ∙ ap (λ (g : Stage). fitAt g (c .before .before .before .args .s)) (sym (c .before .enum-told .given .1))
 
 returns-2 : tie.Need-returns-2
-returns-2 c = 
+returns-2 c =
     c .fit-section2 .ensures .0 ∙ ap (λ (g : Stage). fitAt g (c .before .before .before .args .s)) (sym (c .before .enum-told2 .given .1))
 
 returns-3 : tie.Need-returns-3
-returns-3 c = 
+returns-3 c =
     c .fit-chunk .ensures .0 ∙ ap (λ (g : Stage). fitAt g (c .before .before .before .args .s)) (sym (c .before .enum-told3 .given .1))
 
 returns-4 : tie.Need-returns-4
-returns-4 c = 
+returns-4 c =
     c .fit-entry .ensures .0 ∙ ap (λ (g : Stage). fitAt g (c .before .before .before .args .s)) (sym (c .before .enum-told4 .given .1))
 
 returns-5 : tie.Need-returns-5
-returns-5 c = 
+returns-5 c =
     c .fit-object .ensures .0 ∙ ap (λ (g : Stage). fitAt g (c .before .before .before .args .s)) (sym (c .before .enum-told5 .given .1))
 
 returns-6 : tie.Need-returns-6
-returns-6 c = 
+returns-6 c =
     ap (λ (g : Stage). fitAt g (c .before .before .args .s)) (sym (c .enum-told6 .given .1))
 
 pub fit-at-spec : {M : Type 1} → statement M
 fit-at-spec =
-    tie.close
-    (tie.spec
-    enum-told
-    fit-section-requires
-    enum-told-2
-    fit-section-requires-2
-    enum-told-3
-    fit-chunk-requires
-    enum-told-4
-    fit-entry-requires
-    enum-told-5
-    fit-object-requires
-    enum-told-6
-    returns
-    returns-2
-    returns-3
-    returns-4
-    returns-5
-    returns-6)
+    tie.close (tie.spec (search needs) (search needs) (search needs) (search needs) (search needs) (search needs) (search needs) (search needs)
+    (search needs) (search needs) (search needs) returns returns-2 returns-3 returns-4 returns-5 returns-6)

@@ -5,15 +5,6 @@ use borrow.Author.Needs.{needs}
 use Rattle.flat.proofs.tests.is_taken.Statement.{statement}
 use Rattle.flat.proofs.tests.is_taken.Tie as tie
 
-start-answer-requires : tie.Need-start-answer-requires
-start-answer-requires c κs = search needs
-
-enum-told : tie.Need-enum-told
-enum-told c = search needs
-
-enum-told-2 : tie.Need-enum-told-2
-enum-told-2 c = search needs
-
 returns : tie.Need-returns
 returns c = taken-is (startRefusal (c .before .before .before .args .h)) (c .before .before .start-answer .ensures) (c .enum-told .given .1)
 
@@ -21,4 +12,5 @@ returns-2 : tie.Need-returns-2
 returns-2 c = untaken-is (startRefusal (c .before .before .before .args .h)) (c .before .before .start-answer .ensures) (c .enum-told2 .given .1)
 
 pub is-taken-spec : {M : Type 1} → statement M
-is-taken-spec = tie.close (tie.spec start-answer-requires enum-told enum-told-2 returns returns-2)
+is-taken-spec =
+    tie.close (tie.spec (search needs) (search needs) (search needs) returns returns-2)

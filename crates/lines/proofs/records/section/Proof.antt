@@ -7,19 +7,11 @@ use borrow.Author.Needs.{needs}
 use Rattle.lines.proofs.records.section.Statement.{statement}
 use Rattle.lines.proofs.records.section.Tie as tie
 
-part-number-requires : tie.Need-part-number-requires
-part-number-requires c κs = search needs
-
-cast-with-three : tie.Need-cast-with-three
-cast-with-three c = search needs
-
-with-three-requires : tie.Need-with-three-requires
-with-three-requires c κs = search needs
-
 returns : tie.Need-returns
 returns c =
     let r = c .before .before .before .args .r in
     c .with-three .ensures ∙ ap (λ (n : ℕ). lineOf 83 (n ∷ r .«data_offset» ∷ r .size ∷ [])) (c .before .before .part-number .ensures)
 
 pub section-spec : {M : Type 1} → statement M
-section-spec = tie.close (tie.spec part-number-requires cast-with-three with-three-requires returns)
+section-spec =
+    tie.close (tie.spec (search needs) (search needs) (search needs) returns)

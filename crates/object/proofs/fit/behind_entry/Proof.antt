@@ -20,9 +20,6 @@ add-first c =
     let a = c .before .before .before in
     omega (arith, near a, a .pre .inside)
 
-cast-end : tie.Need-cast-end
-cast-end c = search needs
-
 add-end : tie.Need-add-end
 add-end c =
     let a = c .before .before .before .before .before in
@@ -31,9 +28,6 @@ add-end c =
 returns : tie.Need-returns
 unfolding behindEntry
 returns c = telling _ _ (simp (lt-leb _ _ (c .if1 .taken), and-false)) (entry-shows-near (c .before .before .before .before .before .before .before .args .s))
-
-may-start-requires : tie.Need-may-start-requires
-may-start-requires c κs = search needs
 
 returns-2 : tie.Need-returns-2
 unfolding behindEntry
@@ -44,4 +38,4 @@ returns-2 c =
 
 pub behind-entry-spec : {M : Type 1} → statement M
 behind-entry-spec =
-    tie.close (tie.spec add-first cast-end add-end returns may-start-requires returns-2)
+    tie.close (tie.spec add-first (search needs) add-end returns (search needs) returns-2)

@@ -7,9 +7,6 @@ use borrow.Author.Needs.{needs}
 use Rattle.object.proofs.fit.fit_object.Statement.{statement}
 use Rattle.object.proofs.fit.fit_object.Tie as tie
 
-object-consistent-requires : tie.Need-object-consistent-requires
-object-consistent-requires c κs = search needs
-
 size-in-words-requires : tie.Need-size-in-words-requires
 size-in-words-requires c κs = consistent-shows-words (c .before .before .args .s) (sym (c .before .object-consistent .ensures) ∙ c .if1 .taken)
 
@@ -26,4 +23,4 @@ returns-2 c = telling _ _ (rw (← c .before .object-consistent .ensures, c .if1
 
 pub fit-object-spec : {M : Type 1} → statement M
 fit-object-spec =
-    tie.close (tie.spec object-consistent-requires size-in-words-requires returns returns-2)
+    tie.close (tie.spec (search needs) size-in-words-requires returns returns-2)

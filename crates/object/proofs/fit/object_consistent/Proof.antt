@@ -4,9 +4,6 @@ use borrow.Author.Needs.{needs}
 use Rattle.object.proofs.fit.object_consistent.Statement.{statement}
 use Rattle.object.proofs.fit.object_consistent.Tie as tie
 
-in-chunk-requires : tie.Need-in-chunk-requires
-in-chunk-requires c κs = search needs
-
 behind-entry-requires : tie.Need-behind-entry-requires
 behind-entry-requires c κs = c .before .in-chunk .ensures .1 (c .if1 .taken)
 
@@ -30,11 +27,4 @@ returns-3 c = rw (← c .before .in-chunk .ensures .0, c .if1 .left)
 
 pub object-consistent-spec : {M : Type 1} → statement M
 object-consistent-spec =
-    tie.close
-    (tie.spec
-    in-chunk-requires
-    behind-entry-requires
-    object-done-requires
-    returns
-    returns-2
-    returns-3)
+    tie.close (tie.spec (search needs) behind-entry-requires object-done-requires returns returns-2 returns-3)

@@ -7,27 +7,9 @@ use borrow.Author.Needs.{needs}
 use Rattle.object.proofs.fit.object_done.Statement.{statement}
 use Rattle.object.proofs.fit.object_done.Tie as tie
 
-cast-done : tie.Need-cast-done
-cast-done c = search needs
-
-cast-two : tie.Need-cast-two
-cast-two c = search needs
-
-mul-two : tie.Need-mul-two
-mul-two c = search needs
-
-add-result : tie.Need-add-result
-add-result c = search needs
-
 returns : tie.Need-returns
 unfolding objectDone if_then_else_
 returns c = rw (eq-eqb _ 0 (c .before .if1 .taken))
-
-cast-len : tie.Need-cast-len
-cast-len c = search needs
-
-cast-size : tie.Need-cast-size
-cast-size c = search needs
 
 add-may-end : tie.Need-add-may-end
 add-may-end c =
@@ -43,9 +25,6 @@ add-may-end-3 : tie.Need-add-may-end-3
 add-may-end-3 c =
     let read = c .before .before .before in
     omega (arith, read .struct-known6 .given, read .before .struct-known5 .given, read .before .before .before .before .before .before .before .pre)
-
-may-end-requires : tie.Need-may-end-requires
-may-end-requires c κs = search needs
 
 add-result-2 : tie.Need-add-result-2
 add-result-2 c =
@@ -63,19 +42,5 @@ returns-2 c = rw (ne-eqb _ 0 (c .before .before .before .before .before .before 
 
 pub object-done-spec : {M : Type 1} → statement M
 object-done-spec =
-    tie.close
-    (tie.spec
-    cast-done
-    cast-two
-    mul-two
-    add-result
-    returns
-    cast-len
-    cast-size
-    add-may-end
-    add-may-end-2
-    add-may-end-3
-    may-end-requires
-    add-result-2
-    add-result-3
-    returns-2)
+    tie.close (tie.spec (search needs) (search needs) (search needs) (search needs) returns (search needs) (search needs) add-may-end add-may-end-2
+    add-may-end-3 (search needs) add-result-2 add-result-3 returns-2)

@@ -10,15 +10,6 @@ use borrow.Author.Needs.{needs}
 use Rattle.object.proofs.fit.size_in_words.Statement.{statement}
 use Rattle.object.proofs.fit.size_in_words.Tie as tie
 
-mul-result : tie.Need-mul-result
-mul-result c = search needs
-
-cast-result : tie.Need-cast-result
-cast-result c = search needs
-
-shl-result : tie.Need-shl-result
-shl-result c = search needs
-
 returns : tie.Need-returns
 unfolding sizeInWords
 returns c =
@@ -26,4 +17,5 @@ returns c =
     ap (ltb (s .size)) (shl-exact {a = 1} 1 (15 * s .words) 32 (omega arith) (omega arith) ∙ one-mul _)
 
 pub size-in-words-spec : {M : Type 1} → statement M
-size-in-words-spec = tie.close (tie.spec mul-result cast-result shl-result returns)
+size-in-words-spec =
+    tie.close (tie.spec (search needs) (search needs) (search needs) returns)

@@ -4,9 +4,6 @@ use borrow.Author.Needs.{needs}
 use Rattle.object.proofs.verdict.format_of.Statement.{statement}
 use Rattle.object.proofs.verdict.format_of.Tie as tie
 
-is-r2000-requires : tie.Need-is-r2000-requires
-is-r2000-requires c κs = search needs
-
 returns : tie.Need-returns
 returns c = sym (c .if1 .taken) ∙ c .before .is-r2000 .ensures
 
@@ -14,4 +11,5 @@ returns-2 : tie.Need-returns-2
 returns-2 c = sym (c .if1 .left) ∙ c .before .is-r2000 .ensures
 
 pub format-of-spec : {M : Type 1} → statement M
-format-of-spec = tie.close (tie.spec is-r2000-requires returns returns-2)
+format-of-spec =
+    tie.close (tie.spec (search needs) returns returns-2)

@@ -13,9 +13,6 @@ use Rattle.object.proofs.verdict.leave_object.Tie as tie
 near : (c : tie.Start) → mapEnd (c .args .s .header) < 2 ^ 33
 near c = search (needs, map-end-below)
 
-cast-if1 : tie.Need-cast-if1
-cast-if1 c = search needs
-
 add-if1 : tie.Need-add-if1
 add-if1 c =
     let a = c .before .before .before in
@@ -37,8 +34,8 @@ returns c = rw (eq-eqb _ _ (c .before .before .if1 .taken)) (c .enter-chunk .ens
 
 returns-2 : tie.Need-returns-2
 unfolding leaveObject if_then_else_
-returns-2 c = rw (ne-eqb _ _ (c .before .before .before .before .if1 .left))
+returns-2 c = rw (ne-eqb _ _ (c .before .before .if1 .left)) (c .in-unit .ensures)
 
 pub leave-object-spec : {M : Type 1} → statement M
 leave-object-spec =
-    tie.close (tie.spec cast-if1 add-if1 add-enter-chunk enter-chunk-requires returns returns-2)
+    tie.close (tie.spec (search needs) add-if1 add-enter-chunk enter-chunk-requires returns (search needs) returns-2)

@@ -10,31 +10,15 @@ use Rattle.object.proofs.verdict.opening.Tie as tie
 sixteen : (c : tie.Start) → length (c .args .s .head) ≡ 16
 sixteen c = search needs
 
-kept-of-requires : tie.Need-kept-of-requires
-kept-of-requires c κs = search needs
-
-format-of-requires : tie.Need-format-of-requires
-format-of-requires c κs = search needs
-
 array-share-prefix-head : tie.Need-array-share-prefix-head
 array-share-prefix-head c = omega (arith, sixteen (c .before .before .before .before), c .before .kept-of .ensures)
 
 slice-aggregate-prologue : tie.Need-slice-aggregate-prologue
 slice-aggregate-prologue c = sym (length-take-le _ _ (omega (arith, sixteen (c .before .before .before .before .before), c .before .before .kept-of .ensures)))
 
-prologue-requires : tie.Need-prologue-requires
-prologue-requires c κs = search needs
-
 returns : tie.Need-returns
 returns c = rw (← c .before .before .format-of .ensures, ← c .before .before .before .kept-of .ensures) (c .prologue .ensures)
 
 pub opening-spec : {M : Type 1} → statement M
 opening-spec =
-    tie.close
-    (tie.spec
-    kept-of-requires
-    format-of-requires
-    array-share-prefix-head
-    slice-aggregate-prologue
-    prologue-requires
-    returns)
+    tie.close (tie.spec (search needs) (search needs) array-share-prefix-head slice-aggregate-prologue (search needs) returns)

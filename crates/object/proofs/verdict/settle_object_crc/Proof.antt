@@ -6,18 +6,9 @@ use borrow.Author.Needs.{needs}
 use Rattle.object.proofs.verdict.settle_object_crc.Statement.{statement}
 use Rattle.object.proofs.verdict.settle_object_crc.Tie as tie
 
-judge-requires : tie.Need-judge-requires
-judge-requires c κs = search needs
-
-settle-verdict-requires : tie.Need-settle-verdict-requires
-settle-verdict-requires c κs = search needs
-
 returns : tie.Need-returns
 unfolding settleObjectCrc if_then_else_
 returns c = rw (eq-eqb _ _ (c .before .before .if1 .taken), ← c .before .judge .ensures) (c .settle-verdict .ensures)
-
-fell-requires : tie.Need-fell-requires
-fell-requires c κs = search needs
 
 returns-2 : tie.Need-returns-2
 unfolding settleObjectCrc if_then_else_
@@ -25,4 +16,4 @@ returns-2 c = rw (ne-eqb _ _ (c .before .before .if1 .left)) (c .fell .ensures)
 
 pub settle-object-crc-spec : {M : Type 1} → statement M
 settle-object-crc-spec =
-    tie.close (tie.spec judge-requires settle-verdict-requires returns fell-requires returns-2)
+    tie.close (tie.spec (search needs) (λ c κs. search needs) returns (search needs) returns-2)

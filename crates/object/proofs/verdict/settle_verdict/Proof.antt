@@ -6,30 +6,22 @@ use borrow.Author.Needs.{needs}
 use Rattle.object.proofs.verdict.settle_verdict.Statement.{statement}
 use Rattle.object.proofs.verdict.settle_verdict.Tie as tie
 
-enum-known-v : tie.Need-enum-known-v
-enum-known-v c = search needs
+add-done : tie.Need-add-done
+add-done c = omega (arith, span-small _ (c .before .before .before .before .before .pre))
 
-cast-t9 : tie.Need-cast-t9
-cast-t9 c = search needs
-
-add-t10 : tie.Need-add-t10
-add-t10 c = omega (arith, span-small _ (c .before .before .before .before .before .pre))
-
-add-t11 : tie.Need-add-t11
-add-t11 c = omega (arith, span-small _ (c .before .before .before .before .before .pre))
+add-done-2 : tie.Need-add-done-2
+add-done-2 c = omega (arith, span-small _ (c .before .before .before .before .before .pre))
 
 leave-object-requires : tie.Need-leave-object-requires
-leave-object-requires c κs = search needs
-
-enum-known-v-2 : tie.Need-enum-known-v-2
-enum-known-v-2 c = search needs
-
-fell-requires : tie.Need-fell-requires
-fell-requires c κs = search needs
+leave-object-requires c κs =
+    let fit = c .before .before .before .before .before .before .pre in
+    rw (c .in-unit .ensures) (fit .chunk, fit .high)
 
 returns : tie.Need-returns
 unfolding settleVerdict
-returns c = rw (c .before .before .before .before .before .before .before .v .given .1, c .leave-object .ensures)
+returns c =
+    rw (c .before .before .before .before .before .before .v .given .1)
+    (rw (c .before .leave-object .ensures, c .before .before .in-unit .ensures) at (c .stepped .ensures))
 
 returns-2 : tie.Need-returns-2
 unfolding settleVerdict
@@ -37,14 +29,5 @@ returns-2 c = rw (c .before .before .v2 .given .1) (c .fell .ensures)
 
 pub settle-verdict-spec : {M : Type 1} → statement M
 settle-verdict-spec =
-    tie.close
-    (tie.spec
-    enum-known-v
-    cast-t9
-    add-t10
-    add-t11
-    leave-object-requires
-    enum-known-v-2
-    fell-requires
-    returns
-    returns-2)
+    tie.close (tie.spec (search needs) (search needs) add-done add-done-2 (search needs) leave-object-requires (search needs) (search needs)
+    (search needs) returns returns-2)

@@ -8,30 +8,9 @@ use borrow.Author.Needs.{needs}
 use Rattle.object.proofs.words.settle_object_size.Statement.{statement}
 use Rattle.object.proofs.words.settle_object_size.Tie as tie
 
-fell-requires : tie.Need-fell-requires
-fell-requires c κs = search needs
-
 returns : tie.Need-returns
 unfolding settleObjectSize if_then_else_
 returns c = rw (le-ltb 0 (c .before .before .before .before .args .size) (omega arith)) (c .fell .ensures)
-
-add-may-end : tie.Need-add-may-end
-add-may-end c = search needs
-
-add-may-end-2 : tie.Need-add-may-end-2
-add-may-end-2 c = search needs
-
-add-may-end-3 : tie.Need-add-may-end-3
-add-may-end-3 c = search needs
-
-may-end-requires : tie.Need-may-end-requires
-may-end-requires c κs = search needs
-
-cast-t18 : tie.Need-cast-t18
-cast-t18 c = search needs
-
-add-t19 : tie.Need-add-t19
-add-t19 c = search needs
 
 returns-2 : tie.Need-returns-2
 unfolding settleObjectSize if_then_else_
@@ -39,9 +18,7 @@ returns-2 c =
     let asked = c .before .before .before .before .before in
     let some : 0 < asked .before .before .before .before .before .args .size = omega arith in
     rw (lt-ltb _ _ some, ← asked .may-end .ensures, c .before .before .before .before .if2 .taken)
-
-fell-requires-2 : tie.Need-fell-requires-2
-fell-requires-2 c κs = search needs
+    (rw (c .before .with-object .ensures) at (c .go-on .ensures))
 
 returns-3 : tie.Need-returns-3
 unfolding settleObjectSize if_then_else_
@@ -52,16 +29,5 @@ returns-3 c =
 
 pub settle-object-size-spec : {M : Type 1} → statement M
 settle-object-size-spec =
-    tie.close
-    (tie.spec
-    fell-requires
-    returns
-    add-may-end
-    add-may-end-2
-    add-may-end-3
-    may-end-requires
-    cast-t18
-    add-t19
-    returns-2
-    fell-requires-2
-    returns-3)
+    tie.close (tie.spec (search needs) returns (search needs) (search needs) (search needs) (search needs) (search needs) (search needs)
+    (search needs) (search needs) returns-2 (search needs) returns-3)

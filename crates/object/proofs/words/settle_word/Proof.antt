@@ -6,12 +6,6 @@ use borrow.Author.Needs.{needs}
 use Rattle.object.proofs.words.settle_word.Statement.{statement}
 use Rattle.object.proofs.words.settle_word.Tie as tie
 
-with-word-requires : tie.Need-with-word-requires
-with-word-requires c κs = search needs
-
-settle-object-size-requires : tie.Need-settle-object-size-requires
-settle-object-size-requires c κs = search needs
-
 returns : tie.Need-returns
 unfolding settleWord if_then_else_
 returns c = rw (lt-ltb _ 0x8000 (c .before .if1 .taken), ← c .before .before .with-word .ensures) (c .settle-object-size .ensures)
@@ -21,11 +15,10 @@ unfolding settleWord if_then_else_
 returns-2 c =
     let tested = c .before .before .before in
     rw (
-      le-ltb _ 0x8000 (tested .before .before .if1 .left), ← tested .before .before .before .with-word .ensures, eq-eqb _ 0 (tested .if2 .taken)
-    )
-
-fell-requires : tie.Need-fell-requires
-fell-requires c κs = search needs
+      le-ltb _ 0x8000 (tested .before .before .if1 .left),
+      ← tested .before .before .before .with-word .ensures,
+      eq-eqb _ 0 (tested .if2 .taken),
+    ) (rw (c .before .with-object .ensures) at (c .go-on .ensures))
 
 returns-3 : tie.Need-returns-3
 unfolding settleWord if_then_else_
@@ -33,11 +26,4 @@ returns-3 c = rw (le-ltb _ 0x8000 (c .before .before .before .before .if1 .left)
 
 pub settle-word-spec : {M : Type 1} → statement M
 settle-word-spec =
-    tie.close
-    (tie.spec
-    with-word-requires
-    settle-object-size-requires
-    returns
-    returns-2
-    fell-requires
-    returns-3)
+    tie.close (tie.spec (search needs) (λ c κs. search needs) returns (search needs) (search needs) returns-2 (search needs) returns-3)

@@ -11,17 +11,9 @@ use Rattle.object.proofs.words.with_word.Tie as tie
 cast-result : tie.Need-cast-result
 cast-result c = omega (arith, and-mask (c .args .word) 15)
 
-mul-result : tie.Need-mul-result
-mul-result c = search needs
-
-cast-result-2 : tie.Need-cast-result-2
-cast-result-2 c = search needs
-
-shl-result : tie.Need-shl-result
-shl-result c = search needs
-
 returns : tie.Need-returns
 returns c = rw (and-mask (c .args .word) 15) (ap (bitOr (c .args .size)) (shl-exact 15 (15 * c .args .words) 32 (omega arith) (omega arith)))
 
 pub with-word-spec : {M : Type 1} → statement M
-with-word-spec = tie.close (tie.spec cast-result mul-result cast-result-2 shl-result returns)
+with-word-spec =
+    tie.close (tie.spec cast-result (search needs) (search needs) (search needs) returns)

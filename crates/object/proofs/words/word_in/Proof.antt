@@ -7,15 +7,6 @@ use borrow.Author.Needs.{needs}
 use Rattle.object.proofs.words.word_in.Statement.{statement}
 use Rattle.object.proofs.words.word_in.Tie as tie
 
-array-read-le16 : tie.Need-array-read-le16
-array-read-le16 c = search needs
-
-array-read-le16-2 : tie.Need-array-read-le16-2
-array-read-le16-2 c = search needs
-
-le16-requires : tie.Need-le16-requires
-le16-requires c κs = search needs
-
 returns : tie.Need-returns
 returns c =
     let t = c .before .args .t1 in
@@ -23,4 +14,5 @@ returns c =
     rw (take-suc t 1 0 (omega arith), take-suc t 0 0 (omega arith)) (c .le16 .ensures)
 
 pub word-in-spec : {M : Type 1} → statement M
-word-in-spec = tie.close (tie.spec array-read-le16 array-read-le16-2 le16-requires returns)
+word-in-spec =
+    tie.close (tie.spec (search needs) (search needs) (search needs) returns)

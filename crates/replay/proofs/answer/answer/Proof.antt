@@ -45,9 +45,6 @@ returns-3 c =
     let f = eq-eqb _ _ (c .before .if4 .taken) in
     (rw (n, m, d .if3 .taken, f) (c .go-on .ensures .0), rw (n, m, d .if3 .taken, f) (c .go-on .ensures .1))
 
-ask-requires : tie.Need-ask-requires
-ask-requires c κs = search needs
-
 returns-4 : tie.Need-returns-4
 unfolding answerLine handAfter if_then_else_
 returns-4 c =
@@ -55,9 +52,6 @@ returns-4 c =
     let n = ne-eqb _ _ (d .before .before .before .if1 .left) in
     let m = ne-eqb _ _ (d .before .before .if2 .left) in
     (rw (n, m, d .if3 .taken, ne-eqb _ _ (c .before .if4 .left)) (c .ask .ensures), rw (n, m, d .if3 .taken, ne-eqb _ _ (c .before .if4 .left)) refl)
-
-bare-requires : tie.Need-bare-requires
-bare-requires c κs = search needs
 
 returns-5 : tie.Need-returns-5
 unfolding answerLine handAfter if_then_else_
@@ -69,16 +63,5 @@ returns-5 c =
 
 pub answer-spec : {M : Type 1} → statement M
 answer-spec =
-    tie.close
-    (tie.spec
-    shared-slice-read-letter
-    begin-requires
-    returns
-    take-in-requires
-    returns-2
-    go-on-requires
-    returns-3
-    ask-requires
-    returns-4
-    bare-requires
-    returns-5)
+    tie.close (tie.spec shared-slice-read-letter begin-requires returns take-in-requires returns-2 go-on-requires returns-3 (search needs) returns-4
+    (search needs) returns-5)

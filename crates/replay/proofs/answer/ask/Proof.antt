@@ -7,21 +7,9 @@ use borrow.Author.Needs.{needs}
 use Rattle.replay.proofs.answer.ask.Statement.{statement}
 use Rattle.replay.proofs.answer.ask.Tie as tie
 
-request-requires : tie.Need-request-requires
-request-requires c κs = search needs
-
-asked-requires : tie.Need-asked-requires
-asked-requires c κs = search needs
-
 returns : tie.Need-returns
 unfolding askLine if_then_else_
 returns c = rw (eq-eqb _ _ (c .before .before .if1 .taken)) (c .asked .ensures ∙ ap askedLine (c .before .request .ensures))
-
-end-of-input-requires : tie.Need-end-of-input-requires
-end-of-input-requires c κs = search needs
-
-ended-requires : tie.Need-ended-requires
-ended-requires c κs = search needs
 
 returns-2 : tie.Need-returns-2
 unfolding askLine if_then_else_
@@ -29,24 +17,12 @@ returns-2 c =
     rw (ne-eqb _ _ (c .before .before .before .if1 .left), eq-eqb _ _ (c .before .before .if2 .taken))
     (c .ended .ensures ∙ ap endedLine (c .before .end-of-input .ensures))
 
-consistent-requires : tie.Need-consistent-requires
-consistent-requires c κs = search needs
-
-yes-requires : tie.Need-yes-requires
-yes-requires c κs = search needs
-
 returns-3 : tie.Need-returns-3
 unfolding askLine if_then_else_
 returns-3 c =
     let d = c .before .before in
     rw (ne-eqb _ _ (d .before .before .if1 .left), ne-eqb _ _ (d .before .if2 .left), eq-eqb _ _ (d .if3 .taken))
     (c .yes .ensures ∙ ap yesLine (c .before .consistent .ensures))
-
-fit-requires : tie.Need-fit-requires
-fit-requires c κs = search needs
-
-yes-requires-2 : tie.Need-yes-requires-2
-yes-requires-2 c κs = search needs
 
 returns-4 : tie.Need-returns-4
 unfolding askLine if_then_else_
@@ -57,17 +33,5 @@ returns-4 c =
 
 pub ask-spec : {M : Type 1} → statement M
 ask-spec =
-    tie.close
-    (tie.spec
-    request-requires
-    asked-requires
-    returns
-    end-of-input-requires
-    ended-requires
-    returns-2
-    consistent-requires
-    yes-requires
-    returns-3
-    fit-requires
-    yes-requires-2
-    returns-4)
+    tie.close (tie.spec (search needs) (search needs) returns (search needs) (search needs) returns-2 (search needs) (search needs) returns-3
+    (search needs) (search needs) returns-4)

@@ -9,4 +9,5 @@ unfolding isBare
 returns c = search needs
 
 pub is-bare-spec : {M : Type 1} → statement M
-is-bare-spec = tie.close (tie.spec returns)
+is-bare-spec =
+    tie.close (tie.spec returns)

@@ -12,12 +12,6 @@ returns : tie.Need-returns
 unfolding sizeOf if_then_else_
 returns c = (rw (eq-eqb _ _ (c .if1 .taken)), omega arith)
 
-shared-slice-read-letter : tie.Need-shared-slice-read-letter
-shared-slice-read-letter c = search needs
-
-is-bare-requires : tie.Need-is-bare-requires
-is-bare-requires c κs = search needs
-
 returns-2 : tie.Need-returns-2
 unfolding sizeOf if_then_else_
 returns-2 c =
@@ -42,9 +36,6 @@ returns-4 c =
     let b = sym (d .is-bare .ensures) ∙ c .before .before .if2 .left in
     (rw (n, b, eq-eqb _ _ (c .before .if3 .taken), le-ltb _ _ (c .if4 .left)), omega arith)
 
-state-size-requires : tie.Need-state-size-requires
-state-size-requires c κs = search needs
-
 returns-5 : tie.Need-returns-5
 unfolding sizeOf if_then_else_
 returns-5 c =
@@ -52,9 +43,6 @@ returns-5 c =
     let n = ne-eqb _ _ (d .before .before .if1 .left) in
     let b = sym (d .is-bare .ensures) ∙ c .before .before .before .if2 .left in
     (rw (n, b, ne-eqb _ _ (c .before .before .if3 .left), eq-eqb _ _ (c .before .if5 .taken)) (c .state-size .ensures .0), c .state-size .ensures .1)
-
-feed-size-requires : tie.Need-feed-size-requires
-feed-size-requires c κs = search needs
 
 returns-6 : tie.Need-returns-6
 unfolding sizeOf if_then_else_
@@ -77,16 +65,5 @@ returns-7 c =
 
 pub size-spec : {M : Type 1} → statement M
 size-spec =
-    tie.close
-    (tie.spec
-    returns
-    shared-slice-read-letter
-    is-bare-requires
-    returns-2
-    returns-3
-    returns-4
-    state-size-requires
-    returns-5
-    feed-size-requires
-    returns-6
+    tie.close (tie.spec returns (search needs) (search needs) returns-2 returns-3 returns-4 (search needs) returns-5 (search needs) returns-6
     returns-7)

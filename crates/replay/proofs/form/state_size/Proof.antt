@@ -11,9 +11,6 @@ returns : tie.Need-returns
 unfolding stateSize if_then_else_
 returns c = (rw (lt-ltb _ _ (c .if1 .taken)), omega arith)
 
-shared-slice-read-stage : tie.Need-shared-slice-read-stage
-shared-slice-read-stage c = search needs
-
 returns-2 : tie.Need-returns-2
 unfolding stateSize if_then_else_
 returns-2 c = (rw (le-ltb _ _ (c .before .before .if1 .left), c .if2 .taken), omega arith)
@@ -23,4 +20,5 @@ unfolding stateSize if_then_else_
 returns-3 c = (rw (le-ltb _ _ (c .before .before .if1 .left), c .if2 .left), omega arith)
 
 pub state-size-spec : {M : Type 1} → statement M
-state-size-spec = tie.close (tie.spec returns shared-slice-read-stage returns-2 returns-3)
+state-size-spec =
+    tie.close (tie.spec returns (search needs) returns-2 returns-3)

@@ -18,30 +18,12 @@ abbrev μ-loop : tie.MeasureT-loop
 loop-holds : tie.Need-loop-holds Inv-loop μ-loop
 loop-holds c = (omega arith, refl)
 
-sub-size : tie.Need-sub-size Inv-loop μ-loop
-sub-size c = search needs
-
-part-size-start : tie.Need-part-size-start Inv-loop μ-loop
-part-size-start c = search needs
-
-part-size-end : tie.Need-part-size-end Inv-loop μ-loop
-part-size-end c = search needs
-
-size-requires : tie.Need-size-requires Inv-loop μ-loop
-size-requires c κs = search needs
-
 returns : tie.Need-returns Inv-loop μ-loop
 returns c =
     let l = c .before .before .before .before .loop in
     let s = c .before .before .before .before .before .before .args .s .now in
     let e : c .before .size .result ≡ sizeOf (drop (l .at) s) = c .before .size .ensures .0 ∙ ap sizeOf (rest s (l .at)) in
     sym (l .inv .1 ∙ left-not s (l .at) (c .before .size .result) (c .before .before .before .loop-test .taken) e (c .if1 .taken))
-
-add-at : tie.Need-add-at Inv-loop μ-loop
-add-at c = search needs
-
-loop-less : tie.Need-loop-less Inv-loop μ-loop
-loop-less c = search needs
 
 loop-again : tie.Need-loop-again Inv-loop μ-loop
 loop-again c =
@@ -57,17 +39,5 @@ returns-2 c =
 
 pub whole-spec : {M : Type 1} → statement M
 whole-spec =
-    tie.close
-    (tie.spec
-    Inv-loop
-    μ-loop
-    loop-holds
-    sub-size
-    part-size-start
-    part-size-end
-    size-requires
-    returns
-    add-at
-    loop-less
-    loop-again
-    returns-2)
+    tie.close (tie.spec Inv-loop μ-loop loop-holds (search needs) (search needs) (search needs) (search needs) returns (search needs) (search needs)
+    loop-again returns-2)

@@ -7,32 +7,10 @@ use borrow.Author.Needs.{needs}
 use Rattle.replay.proofs.parse.head.Statement.{statement}
 use Rattle.replay.proofs.parse.head.Tie as tie
 
-slice-aggregate-copy-in : tie.Need-slice-aggregate-copy-in
-slice-aggregate-copy-in c = search needs
-
-sub-copy-in : tie.Need-sub-copy-in
-sub-copy-in c = search needs
-
-part-copy-in-start : tie.Need-part-copy-in-start
-part-copy-in-start c = search needs
-
-part-copy-in-end : tie.Need-part-copy-in-end
-part-copy-in-end c = search needs
-
-copy-in-requires : tie.Need-copy-in-requires
-copy-in-requires c κs = search needs
-
 returns : tie.Need-returns
 returns c =
     c .before .copy-in .ensures ∙ filled-from (replicate 16 0) (c .before .before .before .before .before .args .s .now) 85 16 refl (omega arith)
 
 pub head-spec : {M : Type 1} → statement M
 head-spec =
-    tie.close
-    (tie.spec
-    slice-aggregate-copy-in
-    sub-copy-in
-    part-copy-in-start
-    part-copy-in-end
-    copy-in-requires
-    returns)
+    tie.close (tie.spec (λ c. search needs) (search needs) (search needs) (search needs) (search needs) returns)

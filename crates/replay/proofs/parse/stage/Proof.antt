@@ -30,4 +30,5 @@ unfolding stageIn if_then_else_
 returns-6 c = search cases
 
 pub stage-spec : {M : Type 1} → statement M
-stage-spec = tie.close (tie.spec returns returns-2 returns-3 returns-4 returns-5 returns-6)
+stage-spec =
+    tie.close (tie.spec returns returns-2 returns-3 returns-4 returns-5 returns-6)

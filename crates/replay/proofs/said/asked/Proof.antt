@@ -5,24 +5,6 @@ use borrow.Author.Needs.{needs}
 use Rattle.replay.proofs.said.asked.Statement.{statement}
 use Rattle.replay.proofs.said.asked.Tie as tie
 
-enum-known-a : tie.Need-enum-known-a
-enum-known-a c = search needs
-
-with-two-requires : tie.Need-with-two-requires
-with-two-requires c κs = search needs
-
-enum-told : tie.Need-enum-told
-enum-told c = search needs
-
-bare-requires : tie.Need-bare-requires
-bare-requires c κs = search needs
-
-enum-known-a-2 : tie.Need-enum-known-a-2
-enum-known-a-2 c = search needs
-
-refusal-requires : tie.Need-refusal-requires
-refusal-requires c κs = search needs
-
 returns : tie.Need-returns
 returns c = told askedLine _ _ _ (c .before .before .a .given .1) (c .with-two .ensures)
 
@@ -34,14 +16,4 @@ returns-3 c = told askedLine _ _ _ (c .before .before .a2 .given .1) (c .refusal
 
 pub asked-spec : {M : Type 1} → statement M
 asked-spec =
-    tie.close
-    (tie.spec
-    enum-known-a
-    with-two-requires
-    enum-told
-    bare-requires
-    enum-known-a-2
-    refusal-requires
-    returns
-    returns-2
-    returns-3)
+    tie.close (tie.spec (search needs) (search needs) (search needs) (search needs) (search needs) (search needs) returns returns-2 returns-3)

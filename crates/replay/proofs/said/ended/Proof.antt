@@ -5,18 +5,6 @@ use borrow.Author.Needs.{needs}
 use Rattle.replay.proofs.said.ended.Statement.{statement}
 use Rattle.replay.proofs.said.ended.Tie as tie
 
-enum-told : tie.Need-enum-told
-enum-told c = search needs
-
-bare-requires : tie.Need-bare-requires
-bare-requires c κs = search needs
-
-enum-known-a : tie.Need-enum-known-a
-enum-known-a c = search needs
-
-refusal-requires : tie.Need-refusal-requires
-refusal-requires c κs = search needs
-
 returns : tie.Need-returns
 returns c = told endedLine _ _ _ (c .before .enum-told .given .1) (c .bare .ensures)
 
@@ -25,4 +13,4 @@ returns-2 c = told endedLine _ _ _ (c .before .before .a .given .1) (c .refusal 
 
 pub ended-spec : {M : Type 1} → statement M
 ended-spec =
-    tie.close (tie.spec enum-told bare-requires enum-known-a refusal-requires returns returns-2)
+    tie.close (tie.spec (search needs) (search needs) (search needs) (search needs) returns returns-2)

@@ -9,39 +9,6 @@ use borrow.Author.Needs.{needs}
 use Rattle.replay.proofs.said.step.Statement.{statement}
 use Rattle.replay.proofs.said.step.Tie as tie
 
-enum-told : tie.Need-enum-told
-enum-told c = search needs
-
-bare-requires : tie.Need-bare-requires
-bare-requires c κs = search needs
-
-enum-known-s : tie.Need-enum-known-s
-enum-known-s c = search needs
-
-part-number-requires : tie.Need-part-number-requires
-part-number-requires c κs = search needs
-
-with-one-requires : tie.Need-with-one-requires
-with-one-requires c κs = search needs
-
-enum-known-s-2 : tie.Need-enum-known-s-2
-enum-known-s-2 c = search needs
-
-section-requires : tie.Need-section-requires
-section-requires c κs = search needs
-
-enum-known-s-3 : tie.Need-enum-known-s-3
-enum-known-s-3 c = search needs
-
-object-requires : tie.Need-object-requires
-object-requires c κs = search needs
-
-enum-told-2 : tie.Need-enum-told-2
-enum-told-2 c = search needs
-
-bare-requires-2 : tie.Need-bare-requires-2
-bare-requires-2 c κs = search needs
-
 returns : tie.Need-returns
 returns c = told stepLine _ _ _ (c .before .enum-told .given .1) (c .bare .ensures)
 
@@ -61,21 +28,5 @@ returns-5 c = told stepLine _ _ _ (c .before .enum-told2 .given .1) (c .bare2 .e
 
 pub step-spec : {M : Type 1} → statement M
 step-spec =
-    tie.close
-    (tie.spec
-    enum-told
-    bare-requires
-    enum-known-s
-    part-number-requires
-    with-one-requires
-    enum-known-s-2
-    section-requires
-    enum-known-s-3
-    object-requires
-    enum-told-2
-    bare-requires-2
-    returns
-    returns-2
-    returns-3
-    returns-4
-    returns-5)
+    tie.close (tie.spec (search needs) (search needs) (search needs) (search needs) (search needs) (search needs) (search needs) (search needs)
+    (search needs) (search needs) (search needs) (search needs) (search needs) returns returns-2 returns-3 returns-4 returns-5)

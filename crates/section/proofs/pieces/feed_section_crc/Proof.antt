@@ -11,25 +11,10 @@ use Rattle.section.proofs.Fields.{two-bytes}
 use Rattle.section.proofs.pieces.feed_section_crc.Statement.{statement}
 use Rattle.section.proofs.pieces.feed_section_crc.Tie as tie
 
-slice-aggregate-copy-in : tie.Need-slice-aggregate-copy-in
-slice-aggregate-copy-in c = search needs
-
-add-copy-in : tie.Need-add-copy-in
-add-copy-in c = search needs
-
-sub-copy-in : tie.Need-sub-copy-in
-sub-copy-in c = search needs
-
-cast-copy-in : tie.Need-cast-copy-in
-cast-copy-in c = search needs
-
 copy-in-requires : tie.Need-copy-in-requires
 copy-in-requires c κs =
     let k = c .before .before .before .before .before in
     omega (arith, four-in-field (k .args .s) _ (k .good .0))
-
-cast-done : tie.Need-cast-done
-cast-done c = search needs
 
 add-done : tie.Need-add-done
 add-done c =
@@ -40,15 +25,6 @@ add-if1 : tie.Need-add-if1
 add-if1 c =
     let k = c .before .before .before .before .before .before .before .before .before in
     omega (arith, late-lt _ _ (k .good .0) (k .pre .0) (omega arith))
-
-array-read-le16 : tie.Need-array-read-le16
-array-read-le16 c = search needs
-
-array-read-le16-2 : tie.Need-array-read-le16-2
-array-read-le16-2 c = search needs
-
-le16-requires : tie.Need-le16-requires
-le16-requires c κs = search needs
 
 settle-section-crc-requires : tie.Need-settle-section-crc-requires
 settle-section-crc-requires c κs = (search needs, omega arith)
@@ -63,25 +39,9 @@ returns c =
 
 returns-2 : tie.Need-returns-2
 unfolding feedSectionCrc if_then_else_
-returns-2 c =
-    let k = c .before .before .before .before .before .before .before in
-    rw (← k .copy-in .ensures, ne-eqb _ _ (c .before .before .before .if1 .left))
+returns-2 c = rw (← c .before .before .before .before .before .copy-in .ensures, ne-eqb _ _ (c .before .if1 .left)) (c .go-on .ensures)
 
 pub feed-section-crc-spec : {M : Type 1} → statement M
 feed-section-crc-spec =
-    tie.close
-    (tie.spec
-    slice-aggregate-copy-in
-    add-copy-in
-    sub-copy-in
-    cast-copy-in
-    copy-in-requires
-    cast-done
-    add-done
-    add-if1
-    array-read-le16
-    array-read-le16-2
-    le16-requires
-    settle-section-crc-requires
-    returns
-    returns-2)
+    tie.close (tie.spec (λ c. search needs) (search needs) (search needs) (search needs) copy-in-requires (search needs) add-done add-if1
+    (search needs) (search needs) (search needs) settle-section-crc-requires returns (search needs) returns-2)

@@ -3,33 +3,6 @@ use borrow.Author.Needs.{needs}
 use Rattle.section.proofs.settle.enter_next.Statement.{statement}
 use Rattle.section.proofs.settle.enter_next.Tie as tie
 
-enum-told : tie.Need-enum-told
-enum-told c = search needs
-
-enter-section-requires : tie.Need-enter-section-requires
-enter-section-requires c κs = search needs
-
-enum-told-2 : tie.Need-enum-told-2
-enum-told-2 c = search needs
-
-map-start-requires : tie.Need-map-start-requires
-map-start-requires c κs = search needs
-
-enter-chunk-requires : tie.Need-enter-chunk-requires
-enter-chunk-requires c κs = search needs
-
-enum-told-3 : tie.Need-enum-told-3
-enum-told-3 c = search needs
-
-enum-told-4 : tie.Need-enum-told-4
-enum-told-4 c = search needs
-
-enum-told-5 : tie.Need-enum-told-5
-enum-told-5 c = search needs
-
-enum-told-6 : tie.Need-enum-told-6
-enum-told-6 c = search needs
-
 returns : tie.Need-returns
 returns c = rw (c .before .enum-told .given .1) (c .enter-section .ensures)
 
@@ -50,20 +23,5 @@ returns-6 c = rw (c .enum-told6 .given .1)
 
 pub enter-next-spec : {M : Type 1} → statement M
 enter-next-spec =
-    tie.close
-    (tie.spec
-    enum-told
-    enter-section-requires
-    enum-told-2
-    map-start-requires
-    enter-chunk-requires
-    enum-told-3
-    enum-told-4
-    enum-told-5
-    enum-told-6
-    returns
-    returns-2
-    returns-3
-    returns-4
-    returns-5
-    returns-6)
+    tie.close (tie.spec (search needs) (search needs) (search needs) (search needs) (search needs) (search needs) (search needs) (search needs)
+    (search needs) returns returns-2 returns-3 returns-4 returns-5 returns-6)
