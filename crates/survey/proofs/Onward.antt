@@ -147,10 +147,10 @@ module _ (h : FlatHeader) (src : List ℕ) (end : ℕ) (c : Cursor) (in-chunk : 
     entry-leads n handle location e some-bytes fits =
         let left : end - c .at - n ≡ end - (c .at + n) = omega arith in
         let behind : drop n bytes ≡ part src (c .at + n) (end - (c .at + n))
-            = part-drop src (c .at) n (end - c .at) (omega arith) (omega arith) ∙ ap (part src (c .at + n)) left in
+        = part-drop src (c .at) n (end - c .at) (omega arith) (omega arith) ∙ ap (part src (c .at + n)) left in
         let z : length (part src (c .at + n) (end - (c .at + n))) ≡ end - (c .at + n) = length-part src (c .at + n) (end - (c .at + n)) (omega arith) in
         let more : entriesFrom (end - c .at - 1) handle location (drop n bytes) ≡ entriesFrom (end - (c .at + n)) handle location (part src (c .at + n) (end - (c .at + n)))
-            = rw behind (entries-settle (end - c .at - 1) (end - (c .at + n)) handle location _ (omega arith) (omega arith)) in
+        = rw behind (entries-settle (end - c .at - 1) (end - (c .at + n)) handle location _ (omega arith) (omega arith)) in
         this-one ∙ rw e (ap (λ (es : List Entry). objectThen h src handle location (entriesThen h src es (c .at + n) rest)) more)
 
 -- the entries of a chunk are those from its first on

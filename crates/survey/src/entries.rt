@@ -55,6 +55,7 @@ fn groups_in(bytes: &[u8]) -> Groups
     Groups::Unending
 }
 
+// The smaller of two numbers.
 fn least(a: usize, b: usize) -> usize
     ensures { λ r. ⌜ r ≡ min a b ⌝ }
 {

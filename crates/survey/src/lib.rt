@@ -88,7 +88,13 @@ fn walk_all(h: FlatHeader, src: &[u8]) -> Walked
 {
     let rows = crc::table();
     let l = locator(h, 0);
-    match section_at(&rows, src, Part::HeaderVars, l.offset as usize, l.size as usize) {
+    match section_at(
+        &rows,
+        src,
+        Part::HeaderVars,
+        l.offset as usize,
+        l.size as usize,
+    ) {
         SectionRead::Fails(f) => refused(StreamError::Fault(f)),
         SectionRead::Holds(vars) => behind_vars(h, &rows, src, vars),
     }

@@ -28,7 +28,15 @@ pub enum ObjectRead {
 }
 
 // A whole object: the checksum first, then the prologue of the data's first 16 bytes.
-fn judge_at(h: FlatHeader, rows: &[[u16; 256]; 8], src: &[u8], handle: u64, location: u64, field: usize, size: u32) -> Judged
+fn judge_at(
+    h: FlatHeader,
+    rows: &[[u16; 256]; 8],
+    src: &[u8],
+    handle: u64,
+    location: u64,
+    field: usize,
+    size: u32,
+) -> Judged
     requires { ⌜ Table (now rows) × (location + field + size + 2 ≤ length (now src)) ⌝ }
     ensures { λ r. ⌜ verdictOf r ≡ verdict h (now (src .entry)) handle location field size ⌝ }
 {
@@ -51,7 +59,15 @@ fn judge_at(h: FlatHeader, rows: &[[u16; 256]; 8], src: &[u8], handle: u64, loca
 }
 
 // The size is known, of so many bytes itself, and with it the object's end.
-fn sized_at(h: FlatHeader, rows: &[[u16; 256]; 8], src: &[u8], handle: u64, location: u64, field: usize, size: u32) -> ObjectRead
+fn sized_at(
+    h: FlatHeader,
+    rows: &[[u16; 256]; 8],
+    src: &[u8],
+    handle: u64,
+    location: u64,
+    field: usize,
+    size: u32,
+) -> ObjectRead
     requires { ⌜ Table (now rows) × (length (now src) ≡ h .length) × (location < 2 ^ 63) × (field ≤ 4) ⌝ }
     ensures { λ r. ⌜ ((rest : Listing) → sizedThen h (now (src .entry)) handle location (sized field size) rest ≡ objectGoes r rest) ⌝ }
 {
@@ -71,7 +87,13 @@ fn sized_at(h: FlatHeader, rows: &[[u16; 256]; 8], src: &[u8], handle: u64, loca
 }
 
 // The object at a location that the map gives for a handle. A second size word may lie beyond the source's end: the walk stalls there.
-pub fn object_at(h: FlatHeader, rows: &[[u16; 256]; 8], src: &[u8], handle: u64, location: u64) -> ObjectRead
+pub fn object_at(
+    h: FlatHeader,
+    rows: &[[u16; 256]; 8],
+    src: &[u8],
+    handle: u64,
+    location: u64,
+) -> ObjectRead
     requires { ⌜ Table (now rows) × (length (now src) ≡ h .length) × (location < 2 ^ 63) ⌝ }
     ensures { λ r. ⌜ ((rest : Listing) → objectThen h (now (src .entry)) handle location rest ≡ objectGoes r rest) ⌝ }
 {
@@ -97,5 +119,13 @@ pub fn object_at(h: FlatHeader, rows: &[[u16; 256]; 8], src: &[u8], handle: u64,
     if 0x8000 <= second {
         return ObjectRead::Ends(broken(Fault::ObjectSize(handle)));
     }
-    sized_at(h, rows, src, handle, location, 4, (first % 0x8000) as u32 + 0x8000 * second as u32)
+    sized_at(
+        h,
+        rows,
+        src,
+        handle,
+        location,
+        4,
+        (first % 0x8000) as u32 + 0x8000 * second as u32,
+    )
 }

@@ -42,7 +42,13 @@ fn sentinel_at(src: &[u8], part: u8, end: usize, at: usize) -> bool
 }
 
 // A section of so many bytes in all: its record, or the first of its fields that is at fault.
-pub fn section_at(rows: &[[u16; 256]; 8], src: &[u8], part: Part, start: usize, total: usize) -> SectionRead
+pub fn section_at(
+    rows: &[[u16; 256]; 8],
+    src: &[u8],
+    part: Part,
+    start: usize,
+    total: usize,
+) -> SectionRead
     requires { ⌜ Table (now rows) × (partNumber part < 2) × (start + total ≤ length (now src)) ⌝ }
     ensures { λ r. ⌜ ((rest : Listing) → sectionThen (now (src .entry)) part start total rest ≡ sectionGoes r rest) ⌝ }
 {

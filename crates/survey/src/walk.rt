@@ -61,7 +61,11 @@ fn next_of(h: FlatHeader, rows: &[[u16; 256]; 8], src: &[u8], end: usize, c: Cur
 {
     match entry_at(src, c.at, end, c.handle, c.location) {
         EntryRead::Refused(n) => Visit::Ends(broken(Fault::MapEntry((c.at + n - 1) as u64))),
-        EntryRead::Leads { bytes, handle, location } => {
+        EntryRead::Leads {
+            bytes,
+            handle,
+            location,
+        } => {
             match object_at(h, rows, src, handle, location) {
                 ObjectRead::Holds(_) => Visit::Goes(Cursor {
                     at: c.at + bytes,

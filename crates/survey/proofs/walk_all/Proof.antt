@@ -24,9 +24,11 @@ cast-section-at-2 c = search needs
 
 section-at-requires : tie.Need-section-at-requires
 section-at-requires c κs =
-    let s = c .before .before .before .before .before .before in
-    (c .before .before .before .before .table .ensures, omega arith,
-    rw (c .before .before .before .locator .ensures) (omega (arith, started (s .args .h) (s .pre .starts) .vars, s .pre .whole)))
+    let s = c .before .before .before .before .before .before in (
+      c .before .before .before .before .table .ensures,
+      omega arith,
+      rw (c .before .before .before .locator .ensures) (omega (arith, started (s .args .h) (s .pre .starts) .vars, s .pre .whole)),
+    )
 
 enum-known-f : tie.Need-enum-known-f
 enum-known-f c = search needs

@@ -60,9 +60,11 @@ returns-2 : tie.Need-returns-2
 unfolding chunkSize chunkFits
 returns-2 c =
     let e = c .before .before .before in
-    let a = e .before .before .before .args in
-    (λ rest. unfit (a .h) (a .src .now) (a .chunk) rest (omega (arith, e .before .map-end .ensures .0)) _ (c .before .before .be16-at .ensures)
-    (rw (← e .before .map-end .ensures .0) (not-true _ (c .before .if2 .taken))) ∙ ap stop (sym (c .broken2 .ensures)), tt)
+    let a = e .before .before .before .args in (
+      λ rest. unfit (a .h) (a .src .now) (a .chunk) rest (omega (arith, e .before .map-end .ensures .0)) _ (c .before .before .be16-at .ensures)
+          (rw (← e .before .map-end .ensures .0) (not-true _ (c .before .if2 .taken))) ∙ ap stop (sym (c .broken2 .ensures)),
+      tt,
+    )
 
 sum-at-requires : tie.Need-sum-at-requires
 sum-at-requires c κs = (c .before .before .before .before .before .pre .0, omega (arith, inside c, c .before .before .before .before .before .pre .1))
@@ -81,19 +83,22 @@ unfolding chunkSize chunkComputed chunkStored
 returns-3 c =
     let e2 = c .before .before in
     let e = e2 .before .before in
-    let a = e .before .before .before .before .before .args in
-    (λ rest. other-sum (a .h) (a .src .now) (a .chunk) rest (near e) _ (e .before .be16-at .ensures) (fits e)
-    _ _ (e2 .before .sum-at .ensures) (e2 .be16-at2 .ensures) (c .before .if3 .taken) ∙ ap stop (sym (c .broken3 .ensures)), tt)
+    let a = e .before .before .before .before .before .args in (
+      λ rest. other-sum (a .h) (a .src .now) (a .chunk) rest (near e) _ (e .before .be16-at .ensures) (fits e)
+          _ _ (e2 .before .sum-at .ensures) (e2 .be16-at2 .ensures) (c .before .if3 .taken) ∙ ap stop (sym (c .broken3 .ensures)),
+      tt,
+    )
 
 returns-4 : tie.Need-returns-4
 unfolding chunkSize chunkComputed chunkStored
 returns-4 c =
     let e2 = c .before .before in
     let e = e2 .before .before in
-    let a = e .before .before .before .before .before .args in
-    (λ rest. with-entries (a .h) (a .src .now) (a .chunk) rest (near e) _ (e .before .be16-at .ensures) (fits e)
-    _ _ (e2 .before .sum-at .ensures) (e2 .be16-at2 .ensures) (c .before .if3 .left) (c .if4 .taken),
-    record { said = e .before .be16-at .ensures; some = more-than-two e (c .if4 .taken); fits = inside e })
+    let a = e .before .before .before .before .before .args in (
+      λ rest. with-entries (a .h) (a .src .now) (a .chunk) rest (near e) _ (e .before .be16-at .ensures) (fits e)
+          _ _ (e2 .before .sum-at .ensures) (e2 .be16-at2 .ensures) (c .before .if3 .left) (c .if4 .taken),
+      record { said = e .before .be16-at .ensures; some = more-than-two e (c .if4 .taken); fits = inside e },
+    )
 
 add-if5 : tie.Need-add-if5
 add-if5 c = search needs
@@ -103,10 +108,12 @@ unfolding chunkSize chunkComputed chunkStored
 returns-5 c =
     let e2 = c .before .before .before in
     let e = e2 .before .before in
-    let a = e .before .before .before .before .before .args in
-    (λ rest. ends-map (a .h) (a .src .now) (a .chunk) rest (near e) _ (e .before .be16-at .ensures) (fits e)
-    _ _ (e2 .before .sum-at .ensures) (e2 .be16-at2 .ensures) (c .before .before .if3 .left) (c .before .if4 .left)
-    (c .if5 .taken ∙ e .before .before .before .map-end .ensures .0), tt)
+    let a = e .before .before .before .before .before .args in (
+      λ rest. ends-map (a .h) (a .src .now) (a .chunk) rest (near e) _ (e .before .be16-at .ensures) (fits e)
+          _ _ (e2 .before .sum-at .ensures) (e2 .be16-at2 .ensures) (c .before .before .if3 .left) (c .before .if4 .left)
+          (c .if5 .taken ∙ e .before .before .before .map-end .ensures .0),
+      tt,
+    )
 
 broken-requires-4 : tie.Need-broken-requires-4
 broken-requires-4 c κs = search needs
@@ -116,10 +123,12 @@ unfolding chunkSize chunkComputed chunkStored
 returns-6 c =
     let e2 = c .before .before .before .before in
     let e = e2 .before .before in
-    let a = e .before .before .before .before .before .args in
-    (λ rest. ends-early (a .h) (a .src .now) (a .chunk) rest (near e) _ (e .before .be16-at .ensures) (fits e)
-    _ _ (e2 .before .sum-at .ensures) (e2 .be16-at2 .ensures) (c .before .before .before .if3 .left) (c .before .before .if4 .left)
-    (λ k. c .before .if5 .left (k ∙ sym (e .before .before .before .map-end .ensures .0))) ∙ ap stop (sym (c .broken4 .ensures)), tt)
+    let a = e .before .before .before .before .before .args in (
+      λ rest. ends-early (a .h) (a .src .now) (a .chunk) rest (near e) _ (e .before .be16-at .ensures) (fits e)
+          _ _ (e2 .before .sum-at .ensures) (e2 .be16-at2 .ensures) (c .before .before .before .if3 .left) (c .before .before .if4 .left)
+          (λ k. c .before .if5 .left (k ∙ sym (e .before .before .before .map-end .ensures .0))) ∙ ap stop (sym (c .broken4 .ensures)),
+      tt,
+    )
 
 pub chunk-at-spec : {M : Type 1} → statement M
 chunk-at-spec =

@@ -10,9 +10,10 @@ groups-then-requires c κs = nine-room 0 (c .before .args .groups .now) 9 (c .be
 
 returns : tie.Need-returns
 returns c =
-    let bytes = c .before .before .args .groups .now in
-    (c .groups-then .ensures ∙ handle-groups bytes,
-    omega (arith, c .groups-then .ensures, groups-below 0 bytes, nine-room 0 bytes 9 (c .before .before .pre) (omega arith)))
+    let bytes = c .before .before .args .groups .now in (
+      c .groups-then .ensures ∙ handle-groups bytes,
+      omega (arith, c .groups-then .ensures, groups-below 0 bytes, nine-room 0 bytes 9 (c .before .before .pre) (omega arith)),
+    )
 
 pub handle-delta-spec : {M : Type 1} → statement M
 handle-delta-spec = tie.close (tie.spec groups-then-requires returns)

@@ -66,7 +66,7 @@ returns-2 c =
     let e = c .before .before .before .before .before in
     let a = e .before .before .before .before .args in
     let p : c .before .prologue .result ≡ headOf (prologueOf (isR2000 (a .h)) (part (a .src .now) (a .location + a .field) (min (a .size) 16)))
-        = rw (← c .before .before .before .format-of .ensures, ← c .before .before .before .before .kept-of .ensures) (simp add-sub-cancel-left at (c .before .prologue .ensures)) in
+    = rw (← c .before .before .before .format-of .ensures, ← c .before .before .before .before .kept-of .ensures) (simp add-sub-cancel-left at (c .before .prologue .ensures)) in
     c .judge-head .ensures _ p
     ∙ sym (by-prologue (a .h) (a .src .now) (a .handle) (a .location) (a .field) (a .size) _ _ (e .before .before .sum-at .ensures) (e .before .le16-at .ensures) (e .if1 .left))
 

@@ -78,19 +78,22 @@ returns-2 c =
     let b = c .before .before .before .before .before in
     let s = b .before .before .before .before in
     let a = s .args in
-    let l = bounds b in
-    (λ rest. ap counted (entry-leads (a .h) (a .src .now) (a .end) (a .c) (s .pre .2) (s .pre .3) rest _ _ _ (is-leading b) (l .0) (l .1)
-    ∙ c .before .before .before .object-at .ensures _) ∙ object-counted _ _ _ (c .before .enum-told .given .1),
-    (omega (arith, l .0), l .1, l .2))
+    let l = bounds b in (
+      λ rest. ap counted (entry-leads (a .h) (a .src .now) (a .end) (a .c) (s .pre .2) (s .pre .3) rest _ _ _ (is-leading b) (l .0) (l .1)
+          ∙ c .before .before .before .object-at .ensures _) ∙ object-counted _ _ _ (c .before .enum-told .given .1),
+      (omega (arith, l .0), l .1, l .2),
+    )
 
 returns-3 : tie.Need-returns-3
 returns-3 c =
     let b = c .before .before .before .before .before in
     let s = b .before .before .before .before in
     let a = s .args in
-    let l = bounds b in
-    (λ rest. ap counted (entry-leads (a .h) (a .src .now) (a .end) (a .c) (s .pre .2) (s .pre .3) rest _ _ _ (is-leading b) (l .0) (l .1)
-    ∙ c .before .before .before .object-at .ensures _ ∙ rw (c .before .q .given .1)), tt)
+    let l = bounds b in (
+      λ rest. ap counted (entry-leads (a .h) (a .src .now) (a .end) (a .c) (s .pre .2) (s .pre .3) rest _ _ _ (is-leading b) (l .0) (l .1)
+          ∙ c .before .before .before .object-at .ensures _ ∙ rw (c .before .q .given .1)),
+      tt,
+    )
 
 pub next-of-spec : {M : Type 1} → statement M
 next-of-spec =

@@ -107,9 +107,12 @@ add-t15 c = omega (arith, inside (c .before) .fits, near (start (c .before)))
 
 loop-holds : tie.Need-loop-holds Inv-loop μ-loop Inv-map μ-map
 loop-holds c =
-    let m = c .before .before .before .before in
-    (omega (arith, m .map .inv .0), omega (arith, inside (c .before) .some), omega arith,
-    ap (λ (l : Listing). more (m .map .count) (counted l)) (sym (entered (c .before))) ∙ m .map .inv .2)
+    let m = c .before .before .before .before in (
+      omega (arith, m .map .inv .0),
+      omega (arith, inside (c .before) .some),
+      omega arith,
+      ap (λ (l : Listing). more (m .map .count) (counted l)) (sym (entered (c .before))) ∙ m .map .inv .2,
+    )
 
 next-of-requires : tie.Need-next-of-requires Inv-loop μ-loop Inv-map μ-map
 next-of-requires c κs =
@@ -135,9 +138,12 @@ loop-again : tie.Need-loop-again Inv-loop μ-loop Inv-map μ-map
 loop-again c =
     let n = c .before in
     let l = n .before .before .before .before .before in
-    let g = ahead n in
-    (omega (arith, g .0, l .loop .inv .0), g .1, g .2,
-    sym (more-again (l .loop .count) _) ∙ ap (more (l .loop .count)) (sym (one-more n _)) ∙ l .loop .inv .3)
+    let g = ahead n in (
+      omega (arith, g .0, l .loop .inv .0),
+      g .1,
+      g .2,
+      sym (more-again (l .loop .count) _) ∙ ap (more (l .loop .count)) (sym (one-more n _)) ∙ l .loop .inv .3,
+    )
 
 add-chunk : tie.Need-add-chunk Inv-loop μ-loop Inv-map μ-map
 add-chunk c = let e = c .before .before .before .before in omega (arith, inside e .fits, near (start e))
@@ -149,9 +155,11 @@ map-again : tie.Need-map-again Inv-loop μ-loop Inv-map μ-map
 map-again c =
     let l = c .before .before in
     let e = l .before .before in
-    let s = start e in
-    (omega (arith, l .loop .inv .0, l .loop .inv .1), omega (arith, inside e .fits, near s),
-    ap (λ (k : Listing). more (l .loop .count) (counted k)) (sym (entries-end (s .args .h) (s .args .src .now) _ (l .loop .c) _ (c .if1 .left))) ∙ l .loop .inv .3)
+    let s = start e in (
+      omega (arith, l .loop .inv .0, l .loop .inv .1),
+      omega (arith, inside e .fits, near s),
+      ap (λ (k : Listing). more (l .loop .count) (counted k)) (sym (entries-end (s .args .h) (s .args .src .now) _ (l .loop .c) _ (c .if1 .left))) ∙ l .loop .inv .3,
+    )
 
 ended-by-requires : tie.Need-ended-by-requires Inv-loop μ-loop Inv-map μ-map
 ended-by-requires c κs = search needs
