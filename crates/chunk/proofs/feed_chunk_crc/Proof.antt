@@ -22,7 +22,7 @@ returns c =
 
 returns-2 : tie.Need-returns-2
 unfolding feedChunkCrc if_then_else_
-returns-2 c = rw (← c .before .before .before .before .before .copy-in .ensures, ne-eqb _ _ (c .before .if1 .left)) (c .go-on .ensures)
+returns-2 c = rw (ne-eqb _ _ (c .before .if1 .left)) (rw (c .before .before .before .before .before .copy-in .ensures) at (c .go-on .ensures))
 
 pub feed-chunk-crc-spec : {M : Type 1} → statement M
 feed-chunk-crc-spec =

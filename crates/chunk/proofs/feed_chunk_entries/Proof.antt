@@ -6,7 +6,7 @@ use Rattle.chunk.proofs.feed_chunk_entries.Tie as tie
 
 returns : tie.Need-returns
 unfolding feedChunkEntries
-returns c = rw (← c .before .before .crc8 .ensures) (c .go-on .ensures)
+returns c = rw (c .before .before .crc8 .ensures) at (c .go-on .ensures)
 
 pub feed-chunk-entries-spec : {M : Type 1} → statement M
 feed-chunk-entries-spec =

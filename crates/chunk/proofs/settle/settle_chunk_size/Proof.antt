@@ -10,7 +10,7 @@ returns : tie.Need-returns
 unfolding settleChunkSize chunkFits if_then_else_
 returns c =
     let tested = c .before .before .before .before in
-    rw (← tested .before .before .map-end .ensures .0, tested .if1 .taken, ← c .before .crc8 .ensures) (c .go-on .ensures)
+    rw (← tested .before .before .map-end .ensures .0, tested .if1 .taken) (rw (c .before .crc8 .ensures) at (c .go-on .ensures))
 
 returns-2 : tie.Need-returns-2
 unfolding settleChunkSize chunkFits if_then_else_
