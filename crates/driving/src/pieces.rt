@@ -1,23 +1,15 @@
 // Which piece the driver brings next: the least of cut, demand and what the source has.
 ghost use mathlib.Core.Path.{_≡_};
-ghost use Prim.Native.Nat.{_<_, min};
+ghost use Prim.Native.Nat.{_<_};
 ghost use Rattle.driving.specs.Pieces.{cutTo, turnAfter, nextBy};
 use form::Cuts;
+use octets::least;
 use streaming::Asked;
 
 // The next piece, if the walk can be given one.
 pub enum Next {
     Piece { offset: u64, len: u64 },
     Over,
-}
-
-fn least(a: u64, b: u64) -> u64
-    ensures { λ r. ⌜ r ≡ min a b ⌝ }
-{
-    if a < b {
-        return a;
-    }
-    b
 }
 
 fn cut_to(cuts: Cuts, turn: usize, demand: u64) -> u64

@@ -7,6 +7,7 @@ ghost use Rattle.streaming.specs.Choose.{if_then_else_};
 ghost use Rattle.streaming.specs.State.{refusedBy};
 ghost use Rattle.streaming.specs.declared.StreamError.the-variants as error;
 ghost use Rattle.streaming.specs.declared.Asked.the-variants as asked;
+ghost use Rattle.account.specs.Statement.{endedBy};
 ghost use Rattle.rules.specs.Header.{startRefusal};
 ghost use Rattle.section.specs.Section.{requestSection, feedSection};
 ghost use Rattle.section.specs.Fit.{fitSection};
@@ -131,7 +132,13 @@ pub fn feed(s: FlatWalker, offset: u64, piece: &[u8]) -> Fed
 pub fn end_of_input(s: FlatWalker) -> Ended
     ensures { λ r. ⌜ r ≡ endOf s ⌝ }
 {
-    let asked = request(s);
+    ended_by(request(s))
+}
+
+// What the end of input says, by what is still asked for.
+pub fn ended_by(asked: Asked) -> Ended
+    ensures { λ r. ⌜ r ≡ endedBy asked ⌝ }
+{
     match asked {
         Asked::Demand(r) => Ended::Refused(StreamError::Truncated {
             offset: r.offset,

@@ -3,7 +3,6 @@ mod records;
 mod refusals;
 
 pub use records::object;
-pub use records::part_number;
 pub use records::section;
 pub use refusals::number;
 pub use refusals::refusal;

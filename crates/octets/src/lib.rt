@@ -1,7 +1,7 @@
-// Bytes: the numbers that they make, lowest byte first or highest byte first; whether two slices are the same; and copies into a slice.
+// Bytes: the numbers that they make, lowest byte first or highest byte first; whether two slices are the same; copies into a slice; and the lesser of two numbers.
 ghost use mathlib.Core.Path.{_≡_};
 ghost use mathlib.Core.List.{[], _∷_};
-ghost use Prim.Native.Nat.{_+_, _≤_, _<_, _^_};
+ghost use Prim.Native.Nat.{_+_, _≤_, _<_, _^_, min};
 ghost use lib.ListN.{length, take, drop};
 ghost use lib.Seq.{sets};
 ghost use Rattle.octets.specs.Octets.{littleEndian, bigEndian};
@@ -72,4 +72,13 @@ pub fn copy_in(dst: &mut [u8], at: usize, src: &[u8])
         dst[at + i] = src[i];
         i += 1;
     }
+}
+
+pub fn least(a: u64, b: u64) -> u64
+    ensures { λ r. ⌜ r ≡ min a b ⌝ }
+{
+    if a < b {
+        return a;
+    }
+    b
 }

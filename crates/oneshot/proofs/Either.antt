@@ -13,7 +13,7 @@ use Rattle.streaming.specs.declared.StreamError.{StreamError}
 use Rattle.rules.specs.Header.{startRefusal}
 use Rattle.rules.specs.Source.{Of}
 use Rattle.rules.specs.PlainList.{plainList}
-use Rattle.rules.proofs.Choose.{passed-by}
+use Rattle.streaming.proofs.Choose.{passed-by}
 use Rattle.survey.specs.Survey.{objectsOf, lengthRefusal, listed, refusedWalk, unless, surveyOf}
 use Rattle.survey.specs.declared.Walked.{Walked}
 use Rattle.oneshot.specs.OneShot.{unlessRefused, objectsFor}

@@ -12,6 +12,7 @@ use records::Head;
 use records::RecordFormat;
 use records::prologue;
 use streaming::ObjectRecord;
+use survey::entries::least;
 
 // The record where there is no object.
 pub fn blank() -> ObjectRecord
@@ -51,15 +52,6 @@ fn format_of(r2000: bool) -> RecordFormat
         return RecordFormat::R2000;
     }
     RecordFormat::R14
-}
-
-fn least(a: usize, b: usize) -> usize
-    ensures { λ r. ⌜ r ≡ min a b ⌝ }
-{
-    if a < b {
-        return a;
-    }
-    b
 }
 
 // The prologue of so many bytes of data at a place, as far as the source has them.

@@ -5,7 +5,6 @@ ghost use Rattle.replay.specs.Answers.{stepLine, fedLine, askedLine, end
 use lines::Line;
 use lines::bare;
 use lines::object;
-use lines::part_number;
 use lines::refusal;
 use lines::section;
 use lines::with_one;
@@ -15,13 +14,14 @@ use streaming::Asked;
 use streaming::Ended;
 use streaming::Start;
 use streaming::Step;
+use streaming::part_number;
 
 fn step(s: Step) -> Line
     ensures { λ r. ⌜ textOf r ≡ stepLine s ⌝ }
 {
     match s {
         Step::Framing => bare(b'F'),
-        Step::Payload(part) => with_one(b'P', part_number(part)),
+        Step::Payload(part) => with_one(b'P', part_number(part) as u64),
         Step::Section(r) => section(r),
         Step::Object(r) => object(r),
         Step::Finished => bare(b'Z'),

@@ -1,5 +1,6 @@
 // The types of the walk, with the Rust's names where a thing is the Rust's (src/streaming/mod.rs and flat.rs).
 ghost use mathlib.Core.Path.{_≡_};
+ghost use Rattle.streaming.specs.Numbers.{partNumber};
 ghost use Rattle.streaming.specs.State.{inUnit, withObject, goesOn};
 ghost use Rattle.streaming.specs.State.{failing as State·failing, stepped as State·stepped, fell as State·fell};
 
@@ -29,6 +30,17 @@ pub enum Part {
     HeaderVars,
     Classes,
     Object,
+}
+
+// Document 01's number of a part.
+pub fn part_number(part: Part) -> u8
+    ensures { λ r. ⌜ r ≡ partNumber part ⌝ }
+{
+    match part {
+        Part::HeaderVars => 0,
+        Part::Classes => 1,
+        Part::Object => 2,
+    }
 }
 
 // A committed section: its data passed size, checksum and sentinels.

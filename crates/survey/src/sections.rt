@@ -15,21 +15,12 @@ use crate::sums::sum_at;
 use streaming::Fault;
 use streaming::Part;
 use streaming::SectionRecord;
+use streaming::part_number;
 
 // What a section turns out to be.
 pub enum SectionRead {
     Holds(SectionRecord),
     Fails(Fault),
-}
-
-fn number_of(part: Part) -> u8
-    ensures { λ r. ⌜ r ≡ partNumber part ⌝ }
-{
-    match part {
-        Part::HeaderVars => 0,
-        Part::Classes => 1,
-        Part::Object => 2,
-    }
 }
 
 // Whether the sentinel of a part stands at a place: the one at its start 0, the one at its end 1.
@@ -52,7 +43,7 @@ pub fn section_at(
     requires { ⌜ Table (now rows) × (partNumber part < 2) × (start + total ≤ length (now src)) ⌝ }
     ensures { λ r. ⌜ ((rest : Listing) → sectionThen (now (src .entry)) part start total rest ≡ sectionGoes r rest) ⌝ }
 {
-    let number = number_of(part);
+    let number = part_number(part);
     if total < 38 {
         return SectionRead::Fails(Fault::SectionSize(number));
     }

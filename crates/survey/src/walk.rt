@@ -3,7 +3,6 @@ ghost use mathlib.Core.Path.{_≡_};
 ghost use Prim.Native.Nat.{_+_, _<_, _≤_, _^_};
 ghost use lib.ListN.{length};
 ghost use Rattle.crc.specs.Rows.{Table};
-ghost use Rattle.account.specs.Statement.{endedBy};
 ghost use Rattle.rules.specs.Header.{mapStart, mapSize, mapEnd};
 ghost use Rattle.rules.specs.PlainList.{Listing, chunksFrom};
 ghost use Rattle.survey.specs.Counting.{counted, visitGoes, entriesOn, GoesAhead};
@@ -14,11 +13,11 @@ use crate::entries::EntryRead;
 use crate::entries::entry_at;
 use crate::objects::ObjectRead;
 use crate::objects::object_at;
+use flat::ended_by;
 use streaming::Asked;
 use streaming::Ended;
 use streaming::Fault;
 use streaming::FlatHeader;
-use streaming::StreamError;
 
 // Where the walk stands in a chunk: its next byte, and the handle and the location so far.
 pub struct Cursor {
@@ -37,20 +36,6 @@ pub enum Visit {
 pub struct Counted {
     pub count: usize,
     pub ending: Ended,
-}
-
-// What the end of input says, by what is still asked for.
-fn ended_by(q: Asked) -> Ended
-    ensures { λ r. ⌜ r ≡ endedBy q ⌝ }
-{
-    match q {
-        Asked::Demand(r) => Ended::Refused(StreamError::Truncated {
-            offset: r.offset,
-            needed: r.len,
-        }),
-        Asked::Nothing => Ended::Whole,
-        Asked::Refused(e) => Ended::Refused(e),
-    }
 }
 
 // The next entry of a chunk whose entries end there, and its object.

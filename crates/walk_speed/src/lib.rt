@@ -5,6 +5,7 @@ ghost use lib.ListN.{length};
 ghost use Rattle.account.specs.Statement.{part};
 ghost use Rattle.flat.specs.Flat.{startOf, feedOf};
 ghost use Rattle.walk_speed.specs.Sums.{sizeIn, sizeOf, turnOf, sumOf, headerOf};
+use octets::least;
 use streaming::Answer;
 use streaming::Asked;
 use streaming::Fed;
@@ -34,15 +35,6 @@ fn size_of(answer: Answer) -> u64
         Answer::Step(step) => size_in(step),
         Answer::Refused(_) => 0,
     }
-}
-
-fn least(a: u64, b: u64) -> u64
-    ensures { λ r. ⌜ r ≡ min a b ⌝ }
-{
-    if a < b {
-        return a;
-    }
-    b
 }
 
 // A demand is fed, at most `cut` bytes of it.

@@ -11,12 +11,6 @@ returns : tie.Need-returns
 unfolding caseSize if_then_else_
 returns c = (rw (lt-ltb _ _ (c .if1 .taken)), omega arith)
 
-number-at-requires : tie.Need-number-at-requires
-number-at-requires c κs = search needs
-
-add-n : tie.Need-add-n
-add-n c = search needs
-
 returns-2 : tie.Need-returns-2
 unfolding caseSize if_then_else_
 returns-2 c = (rw (le-ltb _ _ (c .before .before .if1 .left), ← c .before .number-at .ensures .0) (rw (lt-ltb _ _ (c .if2 .taken))), omega arith)
@@ -26,4 +20,4 @@ unfolding caseSize if_then_else_
 returns-3 c = (rw (le-ltb _ _ (c .before .before .if1 .left), ← c .before .number-at .ensures .0) (rw (le-ltb _ _ (c .if2 .left))), omega arith)
 
 pub size-spec : {M : Type 1} → statement M
-size-spec = tie.close (tie.spec returns number-at-requires add-n returns-2 returns-3)
+size-spec = tie.close (tie.spec returns (search needs) (search needs) returns-2 returns-3)

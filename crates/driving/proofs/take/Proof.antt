@@ -6,24 +6,6 @@ use Rattle.driving.proofs.Driven.{fed-part, counted-part}
 use Rattle.driving.proofs.take.Statement.{statement}
 use Rattle.driving.proofs.take.Tie as tie
 
-add-end : tie.Need-add-end
-add-end c = search needs
-
-sub-feed : tie.Need-sub-feed
-sub-feed c = search needs
-
-part-feed-start : tie.Need-part-feed-start
-part-feed-start c = search needs
-
-part-feed-end : tie.Need-part-feed-end
-part-feed-end c = search needs
-
-feed-requires : tie.Need-feed-requires
-feed-requires c κs = search needs
-
-count-requires : tie.Need-count-requires
-count-requires c κs = search needs
-
 returns : tie.Need-returns
 returns c =
     let a = c .before .before .before .before .before .args in
@@ -33,6 +15,4 @@ returns c =
     (answers, (ap (λ (x : Fed). x .state) e, counted-part (a .t) (c .before .count .result) (a .s) (a .len) _ _ answers (c .before .count .ensures .1)))
 
 pub take-spec : {M : Type 1} → statement M
-take-spec =
-    tie.close
-    (tie.spec add-end sub-feed part-feed-start part-feed-end feed-requires count-requires returns)
+take-spec = tie.close (tie.spec (search needs) (search needs) (search needs) (search needs) (search needs) (search needs) returns)

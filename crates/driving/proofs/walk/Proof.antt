@@ -16,26 +16,14 @@ Inv-loop source h cuts state₀ tally₀ turn₀ state tally turn = Ran h source
 abbrev μ-loop : tie.MeasureT-loop
 μ-loop source h cuts state₀ tally₀ turn₀ state tally turn = mostBytes h - tally .bytes
 
-blank-requires : tie.Need-blank-requires Inv-loop μ-loop
-blank-requires c κs = search needs
-
 loop-holds : tie.Need-loop-holds Inv-loop μ-loop
 loop-holds c =
     let start = c .before .before in
     let a = start .args in
     (none-yet (a .h) (a .source .now) (a .cuts) (a .begun) (c .blank .result) (start .pre .1) (c .blank .ensures), turning-first (a .cuts))
 
-request-requires : tie.Need-request-requires Inv-loop μ-loop
-request-requires c κs = search needs
-
 choose-requires : tie.Need-choose-requires Inv-loop μ-loop
 choose-requires c κs = c .before .loop .inv .1 .below
-
-enum-told : tie.Need-enum-told Inv-loop μ-loop
-enum-told c = search needs
-
-end-of-input-requires : tie.Need-end-of-input-requires Inv-loop μ-loop
-end-of-input-requires c κs = search needs
 
 returns : tie.Need-returns Inv-loop μ-loop
 returns c =
@@ -51,9 +39,6 @@ returns c =
     ran-whole (a .h) (a .source .now) (a .cuts) (start .pre .0) (l .turn) (l .state) (l .tally) (c .end-of-input .result) (l .inv .0) over past
     (c .end-of-input .ensures)
 
-enum-known-next : tie.Need-enum-known-next Inv-loop μ-loop
-enum-known-next c = search needs
-
 take-requires : tie.Need-take-requires Inv-loop μ-loop
 take-requires c κs =
     let n = c .before .next .given in
@@ -63,12 +48,6 @@ take-requires c κs =
     let a = start .args in
     piece-chosen (a .h) (a .source .now) (a .cuts) (start .pre .0) (l .state) (l .turn) (l .inv .1) (f .before .request .result) (f .before .request .ensures)
     (f .choose .result) (f .choose .ensures) (n .0 .0) (n .0 .1 .0) (n .1) .inside
-
-answered-requires : tie.Need-answered-requires Inv-loop μ-loop
-answered-requires c κs = search needs
-
-say-requires : tie.Need-say-requires Inv-loop μ-loop
-say-requires c κs = search needs
 
 turn-after-requires : tie.Need-turn-after-requires Inv-loop μ-loop
 turn-after-requires c κs = c .before .before .before .before .before .before .before .before .before .before .loop .inv .1 .below
@@ -107,21 +86,5 @@ loop-again c =
 
 pub walk-spec : {M : Type 1} → statement M
 walk-spec =
-    tie.close
-    (tie.spec
-    Inv-loop
-    μ-loop
-    blank-requires
-    loop-holds
-    request-requires
-    choose-requires
-    enum-told
-    end-of-input-requires
-    returns
-    enum-known-next
-    take-requires
-    answered-requires
-    say-requires
-    turn-after-requires
-    loop-less
-    loop-again)
+    tie.close (tie.spec Inv-loop μ-loop (search needs) loop-holds (search needs) choose-requires (search needs) (search needs) returns (search needs)
+    take-requires (search needs) (search needs) turn-after-requires loop-less loop-again)

@@ -7,17 +7,11 @@ use Rattle.form.proofs.Sections.{too-short, too-few, too-many, cut-off,
 use Rattle.form.proofs.behind.Statement.{statement}
 use Rattle.form.proofs.behind.Tie as tie
 
-add-if1 : tie.Need-add-if1
-add-if1 c = search needs
-
 returns : tie.Need-returns
 unfolding if_then_else_
 returns c =
     let a = c .before .before .args in
     (rw (too-short (a .s .now) (a .at) (a .size) (a .least) (a .most) (c .if1 .taken)), omega arith)
-
-count-at-requires : tie.Need-count-at-requires
-count-at-requires c κs = search needs
 
 returns-2 : tie.Need-returns-2
 unfolding if_then_else_
@@ -32,9 +26,6 @@ returns-3 c =
     let a = c .before .before .before .before .before .args in
     let e = c .before .before .count-at .ensures .0 in
     (rw (too-many (a .s .now) (a .at) (a .size) (a .least) (a .most) (omega arith) (omega (arith, e)) (omega (arith, e))), omega arith)
-
-add-end : tie.Need-add-end
-add-end c = search needs
 
 mul-end : tie.Need-mul-end
 mul-end c = omega (arith, mul-le-mul-right {n = 9} (c .before .before .count-at .result) (c .before .before .before .before .before .pre .2))
@@ -59,16 +50,4 @@ returns-5 c =
     (rw (standing (a .s .now) (a .at) (a .size) (a .least) (a .most) (omega arith) (omega (arith, e)) (omega (arith, e)) h, e), omega arith)
 
 pub behind-spec : {M : Type 1} → statement M
-behind-spec =
-    tie.close
-    (tie.spec
-    add-if1
-    returns
-    count-at-requires
-    returns-2
-    returns-3
-    add-end
-    mul-end
-    add-end-2
-    returns-4
-    returns-5)
+behind-spec = tie.close (tie.spec (search needs) returns (search needs) returns-2 returns-3 (search needs) mul-end add-end-2 returns-4 returns-5)

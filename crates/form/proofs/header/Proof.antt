@@ -5,33 +5,6 @@ use Rattle.form.proofs.Reading.{header-is}
 use Rattle.form.proofs.header.Statement.{statement}
 use Rattle.form.proofs.header.Tie as tie
 
-count-at-requires : tie.Need-count-at-requires
-count-at-requires c κs = search needs
-
-add-six : tie.Need-add-six
-add-six c = search needs
-
-six-requires : tie.Need-six-requires
-six-requires c κs = search needs
-
-cast-t7 : tie.Need-cast-t7
-cast-t7 c = search needs
-
-locator-requires : tie.Need-locator-requires
-locator-requires c κs = search needs
-
-locator-requires-2 : tie.Need-locator-requires-2
-locator-requires-2 c κs = search needs
-
-locator-requires-3 : tie.Need-locator-requires-3
-locator-requires-3 c κs = search needs
-
-locator-requires-4 : tie.Need-locator-requires-4
-locator-requires-4 c κs = search needs
-
-locator-requires-5 : tie.Need-locator-requires-5
-locator-requires-5 c κs = search needs
-
 locator-requires-6 : tie.Need-locator-requires-6
 locator-requires-6 c κs =
     let held = c .before .before .before .before .before .before .before .before .pre .0 in
@@ -60,17 +33,5 @@ returns c =
 
 pub header-spec : {M : Type 1} → statement M
 header-spec =
-    tie.close
-    (tie.spec
-    count-at-requires
-    add-six
-    six-requires
-    cast-t7
-    locator-requires
-    locator-requires-2
-    locator-requires-3
-    locator-requires-4
-    locator-requires-5
-    locator-requires-6
-    number-at-requires
-    returns)
+    tie.close (tie.spec (search needs) (search needs) (search needs) (search needs) (search needs) (search needs) (search needs) (search needs)
+    (search needs) locator-requires-6 number-at-requires returns)

@@ -8,16 +8,10 @@ use Rattle.form.proofs.is_form.Tie as tie
 returns : tie.Need-returns
 returns c = sym (too-long (c .before .before .args .s .now) (c .if1 .taken))
 
-behind-requires : tie.Need-behind-requires
-behind-requires c κs = search needs
-
 returns-2 : tie.Need-returns-2
 returns-2 c =
     let d = c .before in
     sym (no-locators (d .before .before .before .args .s .now) (d .before .if1 .left) (d .behind .result) (d .behind .ensures .0) (c .if2 .taken))
-
-behind-requires-2 : tie.Need-behind-requires-2
-behind-requires-2 c κs = search needs
 
 returns-3 : tie.Need-returns-3
 returns-3 c =
@@ -27,9 +21,6 @@ returns-3 c =
     (no-magic (d .before .before .before .args .s .now) (d .before .if1 .left) (d .behind .result) (d .behind .ensures .0) (k .before .if2 .left)
     (k .behind2 .result) (k .behind2 .ensures .0) (c .if3 .taken))
 
-behind-requires-3 : tie.Need-behind-requires-3
-behind-requires-3 c κs = search needs
-
 returns-4 : tie.Need-returns-4
 returns-4 c =
     let n = c .before in
@@ -38,9 +29,6 @@ returns-4 c =
     sym
     (no-cuts (d .before .before .before .args .s .now) (d .before .if1 .left) (d .behind .result) (d .behind .ensures .0) (k .before .if2 .left)
     (k .behind2 .result) (k .behind2 .ensures .0) (n .before .if3 .left) (n .behind3 .result) (n .behind3 .ensures .0) (c .if4 .taken))
-
-add-none-zero : tie.Need-add-none-zero
-add-none-zero c = search needs
 
 count-at-requires : tie.Need-count-at-requires
 count-at-requires c κs =
@@ -58,9 +46,6 @@ none-zero-requires c κs =
     let held = cuts-held (d .before .before .before .args .s .now) (d .before .if1 .left) (d .behind .result) (d .behind .ensures .0) (k .before .if2 .left)
     (k .behind2 .result) (k .behind2 .ensures .0) (n .before .if3 .left) (n .behind3 .result) (n .behind3 .ensures .0) (c .before .if4 .left) .1 in
     rw (c .count-at .ensures .0) held
-
-behind-requires-4 : tie.Need-behind-requires-4
-behind-requires-4 c κs = search needs
 
 returns-5 : tie.Need-returns-5
 returns-5 c =
@@ -85,18 +70,5 @@ returns-6 c =
 
 pub is-form-spec : {M : Type 1} → statement M
 is-form-spec =
-    tie.close
-    (tie.spec
-    returns
-    behind-requires
-    returns-2
-    behind-requires-2
-    returns-3
-    behind-requires-3
-    returns-4
-    add-none-zero
-    count-at-requires
-    none-zero-requires
-    behind-requires-4
-    returns-5
-    returns-6)
+    tie.close (tie.spec returns (search needs) returns-2 (search needs) returns-3 (search needs) returns-4 (search needs) count-at-requires
+    none-zero-requires (search needs) returns-5 returns-6)

@@ -12,27 +12,6 @@ returns c =
     let a = c .before .before in
     rw (← a .pre .0, le-ltb (a .args .i) (a .args .count) (c .if1 .taken))
 
-mul-at : tie.Need-mul-at
-mul-at c = search needs
-
-add-at : tie.Need-add-at
-add-at c = search needs
-
-shared-slice-read-t8 : tie.Need-shared-slice-read-t8
-shared-slice-read-t8 c = search needs
-
-add-four : tie.Need-add-four
-add-four c = search needs
-
-four-requires : tie.Need-four-requires
-four-requires c κs = search needs
-
-add-four-2 : tie.Need-add-four-2
-add-four-2 c = search needs
-
-four-requires-2 : tie.Need-four-requires-2
-four-requires-2 c κs = search needs
-
 returns-2 : tie.Need-returns-2
 unfolding locatorIn if_then_else_
 returns-2 c =
@@ -41,14 +20,4 @@ returns-2 c =
 
 pub locator-spec : {M : Type 1} → statement M
 locator-spec =
-    tie.close
-    (tie.spec
-    returns
-    mul-at
-    add-at
-    shared-slice-read-t8
-    add-four
-    four-requires
-    add-four-2
-    four-requires-2
-    returns-2)
+    tie.close (tie.spec returns (search needs) (search needs) (search needs) (search needs) (search needs) (search needs) (search needs) returns-2)

@@ -7,9 +7,6 @@ use Rattle.form.proofs.Reading.{form-held}
 use Rattle.form.proofs.read.Statement.{statement}
 use Rattle.form.proofs.read.Tie as tie
 
-is-form-requires : tie.Need-is-form-requires
-is-form-requires c κs = search needs
-
 said-requires : tie.Need-said-requires
 said-requires c κs = form-held (c .before .before .before .args .s .now) (sym (c .before .is-form .ensures) ∙ c .if1 .taken)
 
@@ -17,12 +14,9 @@ returns : tie.Need-returns
 unfolding formOf if_then_else_
 returns c = rw (sym (c .before .before .is-form .ensures) ∙ c .before .if1 .taken) (c .said .ensures)
 
-nothing-requires : tie.Need-nothing-requires
-nothing-requires c κs = search needs
-
 returns-2 : tie.Need-returns-2
 unfolding formOf if_then_else_
 returns-2 c = rw (sym (c .before .before .is-form .ensures) ∙ c .before .if1 .left) (c .nothing .ensures)
 
 pub read-spec : {M : Type 1} → statement M
-read-spec = tie.close (tie.spec is-form-requires said-requires returns nothing-requires returns-2)
+read-spec = tie.close (tie.spec (search needs) said-requires returns (search needs) returns-2)

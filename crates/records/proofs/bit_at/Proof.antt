@@ -7,22 +7,9 @@ use Rattle.rules.specs.Prologue.{bitAt}
 use Rattle.records.proofs.bit_at.Statement.{statement}
 use Rattle.records.proofs.bit_at.Tie as tie
 
-shared-slice-read-wide : tie.Need-shared-slice-read-wide
-shared-slice-read-wide c = search needs
-
-wide-requires : tie.Need-wide-requires
-wide-requires c κs = search needs
-
-sub-result : tie.Need-sub-result
-sub-result c = search needs
-
-shr-result : tie.Need-shr-result
-shr-result c = search needs
-
 returns : tie.Need-returns
 unfolding bitAt
 returns c = and-mask _ 1 ∙ ap (λ (b : ℕ). b / 2 ^ (7 - c .before .before .before .args .at % 8) % 2) (c .wide .ensures)
 
 pub bit-at-spec : {M : Type 1} → statement M
-bit-at-spec =
-    tie.close (tie.spec shared-slice-read-wide wide-requires sub-result shr-result returns)
+bit-at-spec = tie.close (tie.spec (search needs) (search needs) (search needs) (search needs) returns)

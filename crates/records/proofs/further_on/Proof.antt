@@ -8,19 +8,13 @@ use Rattle.records.specs.Bits.{further}
 use Rattle.records.proofs.further_on.Statement.{statement}
 use Rattle.records.proofs.further_on.Tie as tie
 
-sub-if1 : tie.Need-sub-if1
-sub-if1 c = search needs
-
 returns : tie.Need-returns
 unfolding further if_then_else_
 returns c = rw (lt-ltb (2 ^ 64 - 1) (c .before .args .at + c .before .args .n) (omega arith))
-
-add-result : tie.Need-add-result
-add-result c = search needs
 
 returns-2 : tie.Need-returns-2
 unfolding further if_then_else_
 returns-2 c = rw (le-ltb (2 ^ 64 - 1) (c .before .args .at + c .before .args .n) (omega arith))
 
 pub further-on-spec : {M : Type 1} → statement M
-further-on-spec = tie.close (tie.spec sub-if1 returns add-result returns-2)
+further-on-spec = tie.close (tie.spec (search needs) returns (search needs) returns-2)

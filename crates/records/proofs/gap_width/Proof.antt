@@ -5,12 +5,6 @@ use Rattle.records.specs.Fields.{gapWidth}
 use Rattle.records.proofs.gap_width.Statement.{statement}
 use Rattle.records.proofs.gap_width.Tie as tie
 
-enum-told : tie.Need-enum-told
-enum-told c = search needs
-
-enum-told-2 : tie.Need-enum-told-2
-enum-told-2 c = search needs
-
 returns : tie.Need-returns
 unfolding gapWidth if_then_else_
 returns c = rw (c .enum-told .given .1)
@@ -20,4 +14,4 @@ unfolding gapWidth if_then_else_
 returns-2 c = rw (c .enum-told2 .given .1)
 
 pub gap-width-spec : {M : Type 1} → statement M
-gap-width-spec = tie.close (tie.spec enum-told enum-told-2 returns returns-2)
+gap-width-spec = tie.close (tie.spec (search needs) (search needs) returns returns-2)

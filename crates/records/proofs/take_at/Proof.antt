@@ -18,20 +18,8 @@ abbrev μ-loop : tie.MeasureT-loop
 returns : tie.Need-returns Inv-loop μ-loop
 returns c = too-many _ _ _ (omega arith)
 
-sub-if2 : tie.Need-sub-if2 Inv-loop μ-loop
-sub-if2 c = search needs
-
 returns-2 : tie.Need-returns-2 Inv-loop μ-loop
 returns-2 c = too-far _ _ _ (omega arith) (omega arith)
-
-add-end : tie.Need-add-end Inv-loop μ-loop
-add-end c = search needs
-
-add-if3 : tie.Need-add-if3 Inv-loop μ-loop
-add-if3 c = search needs
-
-add-if3-2 : tie.Need-add-if3-2 Inv-loop μ-loop
-add-if3-2 c = search needs
 
 returns-3 : tie.Need-returns-3 Inv-loop μ-loop
 returns-3 c = too-few _ _ _ (omega arith) (omega arith) (omega arith)
@@ -40,23 +28,11 @@ loop-holds : tie.Need-loop-holds Inv-loop μ-loop
 unfolding bitsAt
 loop-holds c = (omega arith, refl)
 
-add-bit-at : tie.Need-add-bit-at Inv-loop μ-loop
-add-bit-at c = search needs
-
-bit-at-requires : tie.Need-bit-at-requires Inv-loop μ-loop
-bit-at-requires c κs = search needs
-
 push-requires : tie.Need-push-requires Inv-loop μ-loop
 push-requires c κs =
     let a = c .before .before .before .before .before .before .before .args in
     let i = c .before .before .loop .i in
     (omega (arith, bits-room (a .bytes .now) (a .at) i (omega arith)), omega (arith, bit-lt (a .bytes .now) (a .at + i)))
-
-add-i : tie.Need-add-i Inv-loop μ-loop
-add-i c = search needs
-
-loop-less : tie.Need-loop-less Inv-loop μ-loop
-loop-less c = search needs
 
 loop-again : tie.Need-loop-again Inv-loop μ-loop
 unfolding bitsAt
@@ -70,22 +46,5 @@ returns-4 c =
 
 pub take-at-spec : {M : Type 1} → statement M
 take-at-spec =
-    tie.close
-    (tie.spec
-    Inv-loop
-    μ-loop
-    returns
-    sub-if2
-    returns-2
-    add-end
-    add-if3
-    add-if3-2
-    returns-3
-    loop-holds
-    add-bit-at
-    bit-at-requires
-    push-requires
-    add-i
-    loop-less
-    loop-again
-    returns-4)
+    tie.close (tie.spec Inv-loop μ-loop returns (search needs) returns-2 (search needs) (search needs) (search needs) returns-3 loop-holds
+    (search needs) (search needs) push-requires (search needs) (search needs) loop-again returns-4)

@@ -6,9 +6,6 @@ use Rattle.records.specs.Fields.{typeWidth}
 use Rattle.records.proofs.type_width.Statement.{statement}
 use Rattle.records.proofs.type_width.Tie as tie
 
-number-of-requires : tie.Need-number-of-requires
-number-of-requires c κs = search needs
-
 returns : tie.Need-returns
 unfolding typeWidth if_then_else_
 returns c = rw (← c .before .number-of .ensures, eq-eqb _ 0 (c .if1 .taken))
@@ -22,4 +19,4 @@ unfolding typeWidth if_then_else_
 returns-3 c = rw (← c .before .before .number-of .ensures, ne-eqb _ 0 (c .before .if1 .left), ne-eqb _ 1 (c .if2 .left))
 
 pub type-width-spec : {M : Type 1} → statement M
-type-width-spec = tie.close (tie.spec number-of-requires returns returns-2 returns-3)
+type-width-spec = tie.close (tie.spec (search needs) returns returns-2 returns-3)

@@ -12,25 +12,10 @@ use borrow.Author.Needs.{needs}
 use Rattle.survey.proofs.behind_vars.Statement.{statement}
 use Rattle.survey.proofs.behind_vars.Tie as tie
 
-locator-requires : tie.Need-locator-requires
-locator-requires c κs = search needs
-
-cast-section-at : tie.Need-cast-section-at
-cast-section-at c = search needs
-
-cast-section-at-2 : tie.Need-cast-section-at-2
-cast-section-at-2 c = search needs
-
 section-at-requires : tie.Need-section-at-requires
 section-at-requires c κs =
     let s = c .before .before .before .before in
     (s .pre .1, omega arith, rw (c .before .before .locator .ensures) (omega (arith, started (s .args .h) (s .pre .0 .starts) .classes, s .pre .0 .whole)))
-
-enum-known-f : tie.Need-enum-known-f
-enum-known-f c = search needs
-
-enum-known-classes : tie.Need-enum-known-classes
-enum-known-classes c = search needs
 
 walk-map-requires : tie.Need-walk-map-requires
 unfolding mapEnd
@@ -58,14 +43,5 @@ returns-2 c =
 
 pub behind-vars-spec : {M : Type 1} → statement M
 behind-vars-spec =
-    tie.close
-    (tie.spec
-    locator-requires
-    cast-section-at
-    cast-section-at-2
-    section-at-requires
-    enum-known-f
-    enum-known-classes
-    walk-map-requires
-    returns
+    tie.close (tie.spec (search needs) (search needs) (search needs) section-at-requires (search needs) (search needs) walk-map-requires returns
     returns-2)

@@ -7,18 +7,6 @@ use borrow.Author.Needs.{needs}
 use Rattle.survey.proofs.survey.Statement.{statement}
 use Rattle.survey.proofs.survey.Tie as tie
 
-start-answer-requires : tie.Need-start-answer-requires
-start-answer-requires c κs = search needs
-
-enum-known-e : tie.Need-enum-known-e
-enum-known-e c = search needs
-
-refused-requires : tie.Need-refused-requires
-refused-requires c κs = search needs
-
-enum-told : tie.Need-enum-told
-enum-told c = search needs
-
 whole-requires : tie.Need-whole-requires
 whole-requires c κs = begun-is _ (sym (c .enum-told .given .1) ∙ c .before .before .start-answer .ensures)
 
@@ -35,13 +23,4 @@ returns-2 c =
     ∙ rw (begun-is (startRefusal (c .before .before .before .before .before .args .h)) (sym (c .before .enum-told .given .1) ∙ c .before .before .before .start-answer .ensures))
 
 pub survey-spec : {M : Type 1} → statement M
-survey-spec =
-    tie.close
-    (tie.spec
-    start-answer-requires
-    enum-known-e
-    refused-requires
-    enum-told
-    whole-requires
-    returns
-    returns-2)
+survey-spec = tie.close (tie.spec (search needs) (search needs) (search needs) (search needs) whole-requires returns returns-2)

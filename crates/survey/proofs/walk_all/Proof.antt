@@ -10,18 +10,6 @@ use borrow.Author.Needs.{needs}
 use Rattle.survey.proofs.walk_all.Statement.{statement}
 use Rattle.survey.proofs.walk_all.Tie as tie
 
-table-requires : tie.Need-table-requires
-table-requires c κs = search needs
-
-locator-requires : tie.Need-locator-requires
-locator-requires c κs = search needs
-
-cast-section-at : tie.Need-cast-section-at
-cast-section-at c = search needs
-
-cast-section-at-2 : tie.Need-cast-section-at-2
-cast-section-at-2 c = search needs
-
 section-at-requires : tie.Need-section-at-requires
 section-at-requires c κs =
     let s = c .before .before .before .before .before .before in (
@@ -29,18 +17,6 @@ section-at-requires c κs =
       omega arith,
       rw (c .before .before .before .locator .ensures) (omega (arith, started (s .args .h) (s .pre .starts) .vars, s .pre .whole)),
     )
-
-enum-known-f : tie.Need-enum-known-f
-enum-known-f c = search needs
-
-refused-requires : tie.Need-refused-requires
-refused-requires c κs = search needs
-
-enum-known-vars : tie.Need-enum-known-vars
-enum-known-vars c = search needs
-
-behind-vars-requires : tie.Need-behind-vars-requires
-behind-vars-requires c κs = search needs
 
 returns : tie.Need-returns
 unfolding plainList
@@ -62,16 +38,5 @@ returns-2 c =
 
 pub walk-all-spec : {M : Type 1} → statement M
 walk-all-spec =
-    tie.close
-    (tie.spec
-    table-requires
-    locator-requires
-    cast-section-at
-    cast-section-at-2
-    section-at-requires
-    enum-known-f
-    refused-requires
-    enum-known-vars
-    behind-vars-requires
-    returns
-    returns-2)
+    tie.close (tie.spec (λ c κs. search needs) (λ c κs. search needs) (λ c. search needs) (λ c. search needs) section-at-requires (λ c. search needs)
+    (λ c κs. search needs) (λ c. search needs) (λ c κs. search needs) returns returns-2)

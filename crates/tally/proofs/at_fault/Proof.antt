@@ -5,15 +5,6 @@ use borrow.Author.Needs.{needs}
 use Rattle.tally.proofs.at_fault.Statement.{statement}
 use Rattle.tally.proofs.at_fault.Tie as tie
 
-enum-told : tie.Need-enum-told
-enum-told c = search needs
-
-framed-requires : tie.Need-framed-requires
-framed-requires c κs = search needs
-
-enum-known-held : tie.Need-enum-known-held
-enum-known-held c = search needs
-
 returns : tie.Need-returns
 returns c =
     let start = c .before .before .before .args in by-held (start .t) (start .len) _ _ _ (c .before .enum-told .given .1) (c .framed .ensures)
@@ -25,4 +16,4 @@ returns-2 c =
     by-held (start .t) (start .len) _ _ _ (c .before .held .given .1) (untaken (start .t) (start .len) fits)
 
 pub at-fault-spec : {M : Type 1} → statement M
-at-fault-spec = tie.close (tie.spec enum-told framed-requires enum-known-held returns returns-2)
+at-fault-spec = tie.close (tie.spec (search needs) (search needs) (search needs) returns returns-2)

@@ -10,21 +10,6 @@ use borrow.Author.Needs.{needs}
 use Rattle.tally.proofs.committed.Statement.{statement}
 use Rattle.tally.proofs.committed.Tie as tie
 
-repeated-requires : tie.Need-repeated-requires
-repeated-requires c κs = search needs
-
-add-requires : tie.Need-add-requires
-add-requires c κs = search needs
-
-add-requires-2 : tie.Need-add-requires-2
-add-requires-2 c κs = search needs
-
-add-requires-3 : tie.Need-add-requires-3
-add-requires-3 c κs = search needs
-
-add-requires-4 : tie.Need-add-requires-4
-add-requires-4 c κs = search needs
-
 returns : tie.Need-returns
 returns c =
     let t = c .before .before .before .before .before .args .t in
@@ -34,6 +19,4 @@ returns c =
     (c .add4 .ensures ∙ ap (λ (k : ℕ). capped (t .repeats + k)) (c .before .before .before .before .repeated .ensures)) (last-moves (t .last) handle)
 
 pub committed-spec : {M : Type 1} → statement M
-committed-spec =
-    tie.close
-    (tie.spec repeated-requires add-requires add-requires-2 add-requires-3 add-requires-4 returns)
+committed-spec = tie.close (tie.spec (search needs) (search needs) (search needs) (search needs) (search needs) returns)

@@ -6,18 +6,6 @@ use borrow.Author.Needs.{needs}
 use Rattle.tally.proofs.count.Statement.{statement}
 use Rattle.tally.proofs.count.Tie as tie
 
-enum-known-answer : tie.Need-enum-known-answer
-enum-known-answer c = search needs
-
-stepped-requires : tie.Need-stepped-requires
-stepped-requires c κs = search needs
-
-enum-known-answer-2 : tie.Need-enum-known-answer-2
-enum-known-answer-2 c = search needs
-
-refused-requires : tie.Need-refused-requires
-refused-requires c κs = search needs
-
 returns : tie.Need-returns
 returns c =
     let start = c .before .before .before .before .args in
@@ -32,6 +20,4 @@ returns-2 c =
     (r, continues (start .t) _ (heard (start .held) (start .answer) (start .len)) r)
 
 pub count-spec : {M : Type 1} → statement M
-count-spec =
-    tie.close
-    (tie.spec enum-known-answer stepped-requires enum-known-answer-2 refused-requires returns returns-2)
+count-spec = tie.close (tie.spec (search needs) (search needs) (search needs) (search needs) returns returns-2)

@@ -7,12 +7,6 @@ use borrow.Author.Needs.{needs}
 use Rattle.tally.proofs.paid.Statement.{statement}
 use Rattle.tally.proofs.paid.Tie as tie
 
-add-requires : tie.Need-add-requires
-add-requires c κs = search needs
-
-add-requires-2 : tie.Need-add-requires-2
-add-requires-2 c κs = search needs
-
 returns : tie.Need-returns
 returns c =
     let t = c .before .before .args .t in
@@ -20,4 +14,4 @@ returns c =
     (stays _ (omega arith)) (repeats-stay _ (t .last) (omega arith)) (last-stays (t .last))
 
 pub paid-spec : {M : Type 1} → statement M
-paid-spec = tie.close (tie.spec add-requires add-requires-2 returns)
+paid-spec = tie.close (tie.spec (search needs) (search needs) returns)

@@ -23,36 +23,6 @@ module _ (c : lts.Start (at-fault-reads.Asked, at-fault-reads.Learnt) reads.Pre 
       by-refusal (c .args .t) (c .args .held) (c .args .len) _ e _ same
       (untaken (c .args .t) (c .args .len) fits ∙ ap (λ (k : Taken). behind (c .args .t) k (c .args .len) []) (sym none))
 
-enum-known-e : tie.Need-enum-known-e
-enum-known-e c = search needs
-
-enum-known-e-2 : tie.Need-enum-known-e-2
-enum-known-e-2 c = search needs
-
-enum-told : tie.Need-enum-told
-enum-told c = search needs
-
-enum-known-e-3 : tie.Need-enum-known-e-3
-enum-known-e-3 c = search needs
-
-enum-known-e-4 : tie.Need-enum-known-e-4
-enum-known-e-4 c = search needs
-
-enum-known-e-5 : tie.Need-enum-known-e-5
-enum-known-e-5 c = search needs
-
-enum-known-e-6 : tie.Need-enum-known-e-6
-enum-known-e-6 c = search needs
-
-at-fault-requires : tie.Need-at-fault-requires
-at-fault-requires c κs = search needs
-
-enum-known-e-7 : tie.Need-enum-known-e-7
-enum-known-e-7 c = search needs
-
-enum-told-2 : tie.Need-enum-told-2
-enum-told-2 c = search needs
-
 returns : tie.Need-returns
 returns c = gives-back (c .before .before .before) _ (c .before .e .given .1) refl
 
@@ -84,24 +54,5 @@ returns-9 c = gives-back (c .before .before) _ (c .enum-told2 .given .1) refl
 
 pub refused-spec : {M : Type 1} → statement M
 refused-spec =
-    tie.close
-    (tie.spec
-    enum-known-e
-    enum-known-e-2
-    enum-told
-    enum-known-e-3
-    enum-known-e-4
-    enum-known-e-5
-    enum-known-e-6
-    at-fault-requires
-    enum-known-e-7
-    enum-told-2
-    returns
-    returns-2
-    returns-3
-    returns-4
-    returns-5
-    returns-6
-    returns-7
-    returns-8
-    returns-9)
+    tie.close (tie.spec (search needs) (search needs) (search needs) (search needs) (search needs) (search needs) (search needs) (search needs)
+    (search needs) (search needs) returns returns-2 returns-3 returns-4 returns-5 returns-6 returns-7 returns-8 returns-9)

@@ -10,12 +10,6 @@ use borrow.Author.Needs.{needs}
 use Rattle.tally.proofs.repeated.Statement.{statement}
 use Rattle.tally.proofs.repeated.Tie as tie
 
-enum-told : tie.Need-enum-told
-enum-told c = search needs
-
-enum-known-last : tie.Need-enum-known-last
-enum-known-last c = search needs
-
 returns : tie.Need-returns
 unfolding repeats if_then_else_
 returns c = rw (c .before .before .last .given .1) (search cases)
@@ -29,4 +23,4 @@ unfolding repeats if_then_else_
 returns-3 c = rw (c .before .before .last .given .1) (search cases)
 
 pub repeated-spec : {M : Type 1} → statement M
-repeated-spec = tie.close (tie.spec enum-told enum-known-last returns returns-2 returns-3)
+repeated-spec = tie.close (tie.spec (search needs) (search needs) returns returns-2 returns-3)

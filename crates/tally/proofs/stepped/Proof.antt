@@ -5,36 +5,6 @@ use borrow.Author.Needs.{needs}
 use Rattle.tally.proofs.stepped.Statement.{statement}
 use Rattle.tally.proofs.stepped.Tie as tie
 
-enum-told : tie.Need-enum-told
-enum-told c = search needs
-
-framed-requires : tie.Need-framed-requires
-framed-requires c κs = search needs
-
-enum-known-step : tie.Need-enum-known-step
-enum-known-step c = search needs
-
-paid-requires : tie.Need-paid-requires
-paid-requires c κs = search needs
-
-enum-known-step-2 : tie.Need-enum-known-step-2
-enum-known-step-2 c = search needs
-
-framed-requires-2 : tie.Need-framed-requires-2
-framed-requires-2 c κs = search needs
-
-enum-known-step-3 : tie.Need-enum-known-step-3
-enum-known-step-3 c = search needs
-
-committed-requires : tie.Need-committed-requires
-committed-requires c κs = search needs
-
-enum-told-2 : tie.Need-enum-told-2
-enum-told-2 c = search needs
-
-framed-requires-3 : tie.Need-framed-requires-3
-framed-requires-3 c κs = search needs
-
 returns : tie.Need-returns
 unfolding handlesOf
 returns c =
@@ -62,20 +32,5 @@ returns-5 c =
 
 pub stepped-spec : {M : Type 1} → statement M
 stepped-spec =
-    tie.close
-    (tie.spec
-    enum-told
-    framed-requires
-    enum-known-step
-    paid-requires
-    enum-known-step-2
-    framed-requires-2
-    enum-known-step-3
-    committed-requires
-    enum-told-2
-    framed-requires-3
-    returns
-    returns-2
-    returns-3
-    returns-4
-    returns-5)
+    tie.close (tie.spec (search needs) (search needs) (search needs) (search needs) (search needs) (search needs) (search needs) (search needs)
+    (search needs) (search needs) returns returns-2 returns-3 returns-4 returns-5)

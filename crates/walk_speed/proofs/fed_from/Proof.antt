@@ -11,33 +11,6 @@ use borrow.Author.Needs.{needs}
 use Rattle.walk_speed.proofs.fed_from.Statement.{statement}
 use Rattle.walk_speed.proofs.fed_from.Tie as tie
 
-least-requires : tie.Need-least-requires
-least-requires c κs = search needs
-
-least-requires-2 : tie.Need-least-requires-2
-least-requires-2 c κs = search needs
-
-sub-least : tie.Need-sub-least
-sub-least c = search needs
-
-least-requires-3 : tie.Need-least-requires-3
-least-requires-3 c κs = search needs
-
-add-feed : tie.Need-add-feed
-add-feed c = search needs
-
-sub-feed : tie.Need-sub-feed
-sub-feed c = search needs
-
-part-feed-start : tie.Need-part-feed-start
-part-feed-start c = search needs
-
-part-feed-end : tie.Need-part-feed-end
-part-feed-end c = search needs
-
-feed-requires : tie.Need-feed-requires
-feed-requires c κs = search needs
-
 returns : tie.Need-returns
 returns c =
     let at = c .before .before .before .before .before .before .args in
@@ -52,15 +25,5 @@ returns c =
 
 pub fed-from-spec : {M : Type 1} → statement M
 fed-from-spec =
-    tie.close
-    (tie.spec
-    least-requires
-    least-requires-2
-    sub-least
-    least-requires-3
-    add-feed
-    sub-feed
-    part-feed-start
-    part-feed-end
-    feed-requires
-    returns)
+    tie.close (tie.spec (search needs) (search needs) (search needs) (search needs) (search needs) (search needs) (search needs) (search needs)
+    (search needs) returns)

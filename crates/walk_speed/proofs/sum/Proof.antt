@@ -32,24 +32,12 @@ abbrev μ-loop : tie.MeasureT-loop
 loop-holds : tie.Need-loop-holds Inv-loop μ-loop
 loop-holds c = (zero-add _, omega arith)
 
-turn-requires : tie.Need-turn-requires Inv-loop μ-loop
-turn-requires c κs = search needs
-
-size-of-requires : tie.Need-size-of-requires Inv-loop μ-loop
-size-of-requires c κs = search needs
-
 add-total : tie.Need-add-total Inv-loop μ-loop
 add-total c =
     let at = c .before .before .before .before in
     let fits = at .before .before .fits .turns in
     let small = c .size-of .ensures .1 in
     omega (arith, at .loop .inv .1, small, fits)
-
-sub-left : tie.Need-sub-left Inv-loop μ-loop
-sub-left c = search needs
-
-loop-less : tie.Need-loop-less Inv-loop μ-loop
-loop-less c = search needs
 
 loop-again : tie.Need-loop-again Inv-loop μ-loop
 loop-again c =
@@ -67,16 +55,4 @@ returns c =
     ends (args .source .now) (args .cut) (at .loop .s) _ _ _ e (at .loop .inv .0)
 
 pub sum-spec : {M : Type 1} → statement M
-sum-spec =
-    tie.close
-    (tie.spec
-    Inv-loop
-    μ-loop
-    loop-holds
-    turn-requires
-    size-of-requires
-    add-total
-    sub-left
-    loop-less
-    loop-again
-    returns)
+sum-spec = tie.close (tie.spec Inv-loop μ-loop loop-holds (search needs) (search needs) add-total (search needs) (search needs) loop-again returns)

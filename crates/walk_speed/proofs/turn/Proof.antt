@@ -6,33 +6,6 @@ use borrow.Author.Needs.{needs}
 use Rattle.walk_speed.proofs.turn.Statement.{statement}
 use Rattle.walk_speed.proofs.turn.Tie as tie
 
-request-requires : tie.Need-request-requires
-request-requires c κs = search needs
-
-enum-known-asked : tie.Need-enum-known-asked
-enum-known-asked c = search needs
-
-fed-from-requires : tie.Need-fed-from-requires
-fed-from-requires c κs = search needs
-
-enum-told : tie.Need-enum-told
-enum-told c = search needs
-
-slice-aggregate-feed : tie.Need-slice-aggregate-feed
-slice-aggregate-feed c = search needs
-
-feed-requires : tie.Need-feed-requires
-feed-requires c κs = search needs
-
-enum-told-2 : tie.Need-enum-told-2
-enum-told-2 c = search needs
-
-slice-aggregate-feed-2 : tie.Need-slice-aggregate-feed-2
-slice-aggregate-feed-2 c = search needs
-
-feed-requires-2 : tie.Need-feed-requires-2
-feed-requires-2 c κs = search needs
-
 returns : tie.Need-returns
 unfolding turnOf
 returns c =
@@ -53,17 +26,5 @@ returns-3 c =
 
 pub turn-spec : {M : Type 1} → statement M
 turn-spec =
-    tie.close
-    (tie.spec
-    request-requires
-    enum-known-asked
-    fed-from-requires
-    enum-told
-    slice-aggregate-feed
-    feed-requires
-    enum-told-2
-    slice-aggregate-feed-2
-    feed-requires-2
-    returns
-    returns-2
-    returns-3)
+    tie.close (tie.spec (search needs) (search needs) (search needs) (search needs) (search needs) (search needs) (search needs) (search needs)
+    (search needs) returns returns-2 returns-3)

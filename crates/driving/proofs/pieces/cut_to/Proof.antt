@@ -10,23 +10,9 @@ returns : tie.Need-returns
 unfolding cutTo if_then_else_
 returns c = search cases
 
-mul-least : tie.Need-mul-least
-mul-least c = search needs
-
-element-copy-out-least : tie.Need-element-copy-out-least
-element-copy-out-least c = search needs
-
-cast-least : tie.Need-cast-least
-cast-least c = search needs
-
-least-requires : tie.Need-least-requires
-least-requires c κs = search needs
-
 returns-2 : tie.Need-returns-2
 unfolding cutTo if_then_else_
 returns-2 c = search cases
 
 pub cut-to-spec : {M : Type 1} → statement M
-cut-to-spec =
-    tie.close
-    (tie.spec returns mul-least element-copy-out-least cast-least least-requires returns-2)
+cut-to-spec = tie.close (tie.spec returns (λ c. search needs) (λ c. search needs) (λ c. search needs) (λ c κs. search needs) returns-2)

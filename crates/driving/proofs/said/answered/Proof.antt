@@ -5,18 +5,6 @@ use Rattle.driving.specs.Said.{answerText}
 use Rattle.driving.proofs.said.answered.Statement.{statement}
 use Rattle.driving.proofs.said.answered.Tie as tie
 
-enum-known-a : tie.Need-enum-known-a
-enum-known-a c = search needs
-
-step-requires : tie.Need-step-requires
-step-requires c κs = search needs
-
-enum-known-a-2 : tie.Need-enum-known-a-2
-enum-known-a-2 c = search needs
-
-silence-requires : tie.Need-silence-requires
-silence-requires c κs = search needs
-
 returns : tie.Need-returns
 returns c = told answerText _ _ _ (c .before .before .a .given .1) (c .step .ensures)
 
@@ -24,6 +12,4 @@ returns-2 : tie.Need-returns-2
 returns-2 c = told answerText _ _ _ (c .before .before .a2 .given .1) (c .silence .ensures)
 
 pub answered-spec : {M : Type 1} → statement M
-answered-spec =
-    tie.close
-    (tie.spec enum-known-a step-requires enum-known-a-2 silence-requires returns returns-2)
+answered-spec = tie.close (tie.spec (search needs) (search needs) (search needs) (search needs) returns returns-2)

@@ -5,12 +5,9 @@ use Rattle.streaming.specs.Choose.{if_then_else_}
 use Rattle.driving.proofs.said.silence.Statement.{statement}
 use Rattle.driving.proofs.said.silence.Tie as tie
 
-bare-requires : tie.Need-bare-requires
-bare-requires c κs = search needs
-
 returns : tie.Need-returns
 unfolding if_then_else_
 returns c = refl
 
 pub silence-spec : {M : Type 1} → statement M
-silence-spec = tie.close (tie.spec bare-requires returns)
+silence-spec = tie.close (tie.spec (search needs) returns)

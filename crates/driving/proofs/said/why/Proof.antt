@@ -6,21 +6,6 @@ use Rattle.driving.specs.Said.{whyText}
 use Rattle.driving.proofs.said.why.Statement.{statement}
 use Rattle.driving.proofs.said.why.Tie as tie
 
-enum-told : tie.Need-enum-told
-enum-told c = search needs
-
-silence-requires : tie.Need-silence-requires
-silence-requires c κs = search needs
-
-enum-known-e : tie.Need-enum-known-e
-enum-known-e c = search needs
-
-refusal-requires : tie.Need-refusal-requires
-refusal-requires c κs = search needs
-
-say-requires : tie.Need-say-requires
-say-requires c κs = search needs
-
 returns : tie.Need-returns
 returns c = told whyText _ _ _ (c .before .enum-told .given .1) (c .silence .ensures)
 
@@ -28,13 +13,4 @@ returns-2 : tie.Need-returns-2
 returns-2 c = told whyText _ _ _ (c .before .before .before .e .given .1) (c .say .ensures ∙ c .before .refusal .ensures)
 
 pub why-spec : {M : Type 1} → statement M
-why-spec =
-    tie.close
-    (tie.spec
-    enum-told
-    silence-requires
-    enum-known-e
-    refusal-requires
-    say-requires
-    returns
-    returns-2)
+why-spec = tie.close (tie.spec (search needs) (search needs) (search needs) (search needs) (search needs) returns returns-2)

@@ -14,4 +14,4 @@ returns c =
 
 pub section-spec : {M : Type 1} → statement M
 section-spec =
-    tie.close (tie.spec (search needs) (search needs) (search needs) returns)
+    tie.close (tie.spec (search needs) (search needs) (search needs) (search needs) returns)

@@ -24,30 +24,6 @@ read-least r2000 f src at n m r e g least =
 returns : tie.Need-returns
 returns c = let a = c .before .before .args in sym (ap headOf (head-none (a .r2000) (a .src .now) (a .at) (a .size) (c .if1 .taken)))
 
-sub-least : tie.Need-sub-least
-sub-least c = search needs
-
-least-requires : tie.Need-least-requires
-least-requires c κs = search needs
-
-add-end : tie.Need-add-end
-add-end c = search needs
-
-sub-prologue : tie.Need-sub-prologue
-sub-prologue c = search needs
-
-part-prologue-start : tie.Need-part-prologue-start
-part-prologue-start c = search needs
-
-part-prologue-end : tie.Need-part-prologue-end
-part-prologue-end c = search needs
-
-format-of-requires : tie.Need-format-of-requires
-format-of-requires c κs = search needs
-
-prologue-requires : tie.Need-prologue-requires
-prologue-requires c κs = search needs
-
 returns-2 : tie.Need-returns-2
 returns-2 c =
     let a = c .before .before .before .before .before .before .args in
@@ -56,15 +32,5 @@ returns-2 c =
 
 pub head-at-spec : {M : Type 1} → statement M
 head-at-spec =
-    tie.close
-    (tie.spec
-    returns
-    sub-least
-    least-requires
-    add-end
-    sub-prologue
-    part-prologue-start
-    part-prologue-end
-    format-of-requires
-    prologue-requires
-    returns-2)
+    tie.close (tie.spec returns (search needs) (search needs) (search needs) (search needs) (search needs) (search needs) (search needs)
+    (search needs) returns-2)

@@ -46,45 +46,12 @@ module _ (src : List ℕ) (location first : ℕ) (f : first ≡ littleEndian (pa
     unfolding sizeOfWords if_then_else_
     no-size k = words-at src location ∙ rw (← f, ← s, le-ltb first 0x8000 h, le-ltb second 0x8000 k)
 
-word-at-requires : tie.Need-word-at-requires
-word-at-requires c κs = search needs
-
-add-head-at : tie.Need-add-head-at
-add-head-at c = search needs
-
-head-at-requires : tie.Need-head-at-requires
-head-at-requires c κs = search needs
-
-record-of-head-requires : tie.Need-record-of-head-requires
-record-of-head-requires c κs = search needs
-
 returns : tie.Need-returns
 returns c =
     let a = c .before .before .before .before .before .args in
     let first = c .before .before .before .word-at in
     record-is (a .r2000) (a .src .now) (a .handle) (a .location) 2 (first .result) (c .before .head-at .result) (c .record-of-head .result)
     (one-word (a .src .now) (a .location) (first .result) (first .ensures .0) (c .before .before .if1 .taken)) (c .before .head-at .ensures) (c .record-of-head .ensures)
-
-add-word-at : tie.Need-add-word-at
-add-word-at c = search needs
-
-word-at-requires-2 : tie.Need-word-at-requires-2
-word-at-requires-2 c κs = search needs
-
-mul-size : tie.Need-mul-size
-mul-size c = search needs
-
-add-size : tie.Need-add-size
-add-size c = search needs
-
-add-head-at-2 : tie.Need-add-head-at-2
-add-head-at-2 c = search needs
-
-head-at-requires-2 : tie.Need-head-at-requires-2
-head-at-requires-2 c κs = search needs
-
-record-of-head-requires-2 : tie.Need-record-of-head-requires-2
-record-of-head-requires-2 c κs = search needs
 
 returns-2 : tie.Need-returns-2
 returns-2 c =
@@ -95,9 +62,6 @@ returns-2 c =
     (two-words (a .src .now) (a .location) (first .result) (first .ensures .0) (second .result) (second .ensures .0)
     (c .before .before .before .before .if1 .left) (c .before .before .if2 .taken))
     (c .before .head-at2 .ensures) (c .record-of-head2 .ensures)
-
-blank-requires : tie.Need-blank-requires
-blank-requires c κs = search needs
 
 returns-3 : tie.Need-returns-3
 returns-3 c =
@@ -110,20 +74,5 @@ returns-3 c =
 
 pub record-at-spec : {M : Type 1} → statement M
 record-at-spec =
-    tie.close
-    (tie.spec
-    word-at-requires
-    add-head-at
-    head-at-requires
-    record-of-head-requires
-    returns
-    add-word-at
-    word-at-requires-2
-    mul-size
-    add-size
-    add-head-at-2
-    head-at-requires-2
-    record-of-head-requires-2
-    returns-2
-    blank-requires
-    returns-3)
+    tie.close (tie.spec (search needs) (search needs) (search needs) (search needs) returns (search needs) (search needs) (search needs)
+    (search needs) (search needs) (search needs) (search needs) returns-2 (search needs) returns-3)

@@ -45,15 +45,6 @@ module _ (src : List ℕ) (c d : Cursor) (hand : d ≡ inHand src c) (r : EntryR
   unfolding stepOf visitOf
   stays n o is g = let e = refused-told (nextEntry src d) n (sym is ∙ told) in rw (← hand, e, ← g)
 
-in-hand-requires : tie.Need-in-hand-requires
-in-hand-requires c κs = search needs
-
-entry-at-requires : tie.Need-entry-at-requires
-entry-at-requires c κs = search needs
-
-enum-known-bytes : tie.Need-enum-known-bytes
-enum-known-bytes c = search needs
-
 record-at-requires : tie.Need-record-at-requires
 record-at-requires c κs =
     let a = c .before .before .before .before .before .before in
@@ -68,12 +59,6 @@ add-t11 c =
     let entry = c .before .before .before .before .before .entry-at in
     let is = c .before .before .before .bytes .given .1 in
     record { fits = at-below (a .src .now) (a .c) (hand .result) (hand .ensures) (entry .result) (entry .ensures) _ _ _ is (search needs) (search needs) }
-
-enum-told : tie.Need-enum-told
-enum-told c = search needs
-
-blank-requires : tie.Need-blank-requires
-blank-requires c κs = search needs
 
 returns : tie.Need-returns
 returns c =
@@ -93,14 +78,4 @@ returns-2 c =
 
 pub next-of-spec : {M : Type 1} → statement M
 next-of-spec =
-    tie.close
-    (tie.spec
-    in-hand-requires
-    entry-at-requires
-    enum-known-bytes
-    record-at-requires
-    add-t11
-    enum-told
-    blank-requires
-    returns
-    returns-2)
+    tie.close (tie.spec (search needs) (search needs) (search needs) record-at-requires add-t11 (search needs) (search needs) returns returns-2)

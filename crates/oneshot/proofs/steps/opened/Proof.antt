@@ -26,39 +26,12 @@ module _ (src : List ℕ) (c : Cursor) where
 returns : tie.Need-returns
 returns c = shut _ _ (omega (arith, c .if1 .taken))
 
-sub-if2 : tie.Need-sub-if2
-sub-if2 c = search needs
-
 returns-2 : tie.Need-returns-2
 returns-2 c = shut _ _ (omega (arith, c .if2 .taken))
-
-be16-at-requires : tie.Need-be16-at-requires
-be16-at-requires c κs = search needs
-
-cast-size : tie.Need-cast-size
-cast-size c = search needs
-
-sub-if3 : tie.Need-sub-if3
-sub-if3 c = search needs
-
-add-if3 : tie.Need-add-if3
-add-if3 c = search needs
 
 returns-3 : tie.Need-returns-3
 unfolding chunkSize
 returns-3 c = shut _ _ (omega (arith, c .if3 .taken, c .before .be16-at .ensures))
-
-add-t7 : tie.Need-add-t7
-add-t7 c = search needs
-
-add-t9 : tie.Need-add-t9
-add-t9 c = search needs
-
-add-t10 : tie.Need-add-t10
-add-t10 c = search needs
-
-add-t11 : tie.Need-add-t11
-add-t11 c = search needs
 
 returns-4 : tie.Need-returns-4
 unfolding chunkSize
@@ -66,18 +39,5 @@ returns-4 c = opens _ _ (c .before .be16-at .result) (c .before .be16-at .ensure
 
 pub opened-spec : {M : Type 1} → statement M
 opened-spec =
-    tie.close
-    (tie.spec
-    returns
-    sub-if2
-    returns-2
-    be16-at-requires
-    cast-size
-    sub-if3
-    add-if3
-    returns-3
-    add-t7
-    add-t9
-    add-t10
-    add-t11
-    returns-4)
+    tie.close (tie.spec returns (search needs) returns-2 (search needs) (search needs) (search needs) (search needs) returns-3 (search needs)
+    (search needs) (search needs) (search needs) returns-4)

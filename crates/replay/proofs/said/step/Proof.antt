@@ -29,4 +29,4 @@ returns-5 c = told stepLine _ _ _ (c .before .enum-told2 .given .1) (c .bare2 .e
 pub step-spec : {M : Type 1} → statement M
 step-spec =
     tie.close (tie.spec (search needs) (search needs) (search needs) (search needs) (search needs) (search needs) (search needs) (search needs)
-    (search needs) (search needs) (search needs) returns returns-2 returns-3 returns-4 returns-5)
+    (search needs) (search needs) (search needs) (search needs) returns returns-2 returns-3 returns-4 returns-5)

@@ -27,34 +27,10 @@ module _ (c : tie.Else2) where
   more-than-two : (c .before .be16-at .result ≡ 2 → ⊥) → 3 ≤ c .before .be16-at .result
   more-than-two n = omega (arith, fits-low _ _ _ fits)
 
-map-end-requires : tie.Need-map-end-requires
-map-end-requires c κs = search needs
-
-add-if1 : tie.Need-add-if1
-add-if1 c = search needs
-
-broken-requires : tie.Need-broken-requires
-broken-requires c κs = search needs
-
 returns : tie.Need-returns
 returns c =
     let a = c .before .before .before .before .args in
     (λ rest. past-end (a .h) (a .src .now) (a .chunk) rest (omega (arith, c .before .before .map-end .ensures .0)) ∙ ap stop (sym (c .broken .ensures)), tt)
-
-be16-at-requires : tie.Need-be16-at-requires
-be16-at-requires c κs = search needs
-
-cast-size : tie.Need-cast-size
-cast-size c = search needs
-
-add-if2 : tie.Need-add-if2
-add-if2 c = search needs
-
-add-if2-2 : tie.Need-add-if2-2
-add-if2-2 c = search needs
-
-broken-requires-2 : tie.Need-broken-requires-2
-broken-requires-2 c κs = search needs
 
 returns-2 : tie.Need-returns-2
 unfolding chunkSize chunkFits
@@ -69,14 +45,8 @@ returns-2 c =
 sum-at-requires : tie.Need-sum-at-requires
 sum-at-requires c κs = (c .before .before .before .before .before .pre .0, omega (arith, inside c, c .before .before .before .before .before .pre .1))
 
-add-be16-at : tie.Need-add-be16-at
-add-be16-at c = search needs
-
 be16-at-requires-2 : tie.Need-be16-at-requires-2
 be16-at-requires-2 c κs = omega (arith, inside (c .before), c .before .before .before .before .before .before .pre .1)
-
-broken-requires-3 : tie.Need-broken-requires-3
-broken-requires-3 c κs = search needs
 
 returns-3 : tie.Need-returns-3
 unfolding chunkSize chunkComputed chunkStored
@@ -100,9 +70,6 @@ returns-4 c =
       record { said = e .before .be16-at .ensures; some = more-than-two e (c .if4 .taken); fits = inside e },
     )
 
-add-if5 : tie.Need-add-if5
-add-if5 c = search needs
-
 returns-5 : tie.Need-returns-5
 unfolding chunkSize chunkComputed chunkStored
 returns-5 c =
@@ -114,9 +81,6 @@ returns-5 c =
           (c .if5 .taken ∙ e .before .before .before .map-end .ensures .0),
       tt,
     )
-
-broken-requires-4 : tie.Need-broken-requires-4
-broken-requires-4 c κs = search needs
 
 returns-6 : tie.Need-returns-6
 unfolding chunkSize chunkComputed chunkStored
@@ -132,25 +96,6 @@ returns-6 c =
 
 pub chunk-at-spec : {M : Type 1} → statement M
 chunk-at-spec =
-    tie.close
-    (tie.spec
-    map-end-requires
-    add-if1
-    broken-requires
-    returns
-    be16-at-requires
-    cast-size
-    add-if2
-    add-if2-2
-    broken-requires-2
-    returns-2
-    sum-at-requires
-    add-be16-at
-    be16-at-requires-2
-    broken-requires-3
-    returns-3
-    returns-4
-    add-if5
-    returns-5
-    broken-requires-4
-    returns-6)
+    tie.close (tie.spec (search needs) (search needs) (search needs) returns (search needs) (search needs) (search needs) (search needs)
+    (search needs) returns-2 sum-at-requires (search needs) be16-at-requires-2 (search needs) returns-3 returns-4 (search needs) returns-5
+    (search needs) returns-6)

@@ -22,18 +22,6 @@ module _ (c : tie.After-n) where
   is-whole : length (take (c .n .given .0 .0) bytes) ≡ c .n .given .0 .0
   is-whole = length-take-le (c .n .given .0 .0) bytes (whole .inside)
 
-groups-in-requires : tie.Need-groups-in-requires
-groups-in-requires c κs = search needs
-
-enum-known-n : tie.Need-enum-known-n
-enum-known-n c = search needs
-
-enum-told : tie.Need-enum-told
-enum-told c = search needs
-
-least-requires : tie.Need-least-requires
-least-requires c κs = search needs
-
 returns : tie.Need-returns
 unfolding withHandle
 returns c =
@@ -53,25 +41,10 @@ returns-2 c =
     let n = c .before .before .before .before in
     handle-ends _ _ _ _ (bytes n) (whole n) (c .before .handle-delta .ensures .0) (c .if1 .taken)
 
-sub-if2 : tie.Need-sub-if2
-sub-if2 c = search needs
-
 returns-3 : tie.Need-returns-3
 returns-3 c =
     let n = c .before .before .before .before .before in
     handle-past _ _ _ _ (bytes n) (whole n) (c .before .before .handle-delta .ensures .0) (omega arith)
-
-sub-location-in : tie.Need-sub-location-in
-sub-location-in c = search needs
-
-part-location-in-start : tie.Need-part-location-in-start
-part-location-in-start c = search needs
-
-part-location-in-end : tie.Need-part-location-in-end
-part-location-in-end c = search needs
-
-add-location-in : tie.Need-add-location-in
-add-location-in c = search needs
 
 location-in-requires : tie.Need-location-in-requires
 location-in-requires c κs = whole (c .before .before .before .before .before .before) .nine
@@ -85,21 +58,5 @@ returns-4 c =
 
 pub entry-in-spec : {M : Type 1} → statement M
 entry-in-spec =
-    tie.close
-    (tie.spec
-    groups-in-requires
-    enum-known-n
-    enum-told
-    least-requires
-    returns
-    slice-aggregate-handle-delta
-    handle-delta-requires
-    returns-2
-    sub-if2
-    returns-3
-    sub-location-in
-    part-location-in-start
-    part-location-in-end
-    add-location-in
-    location-in-requires
-    returns-4)
+    tie.close (tie.spec (search needs) (search needs) (search needs) (search needs) returns slice-aggregate-handle-delta handle-delta-requires
+    returns-2 (search needs) returns-3 (search needs) (search needs) (search needs) (search needs) location-in-requires returns-4)

@@ -29,9 +29,6 @@ mul-value c =
 shared-slice-read-wide : tie.Need-shared-slice-read-wide Inv-loop μ-loop
 shared-slice-read-wide c = omega arith
 
-wide-requires : tie.Need-wide-requires Inv-loop μ-loop
-wide-requires c κs = search needs
-
 add-value : tie.Need-add-value Inv-loop μ-loop
 add-value c =
     let l = c .before .before .before in
@@ -54,16 +51,4 @@ returns c =
 
 pub groups-then-spec : {M : Type 1} → statement M
 groups-then-spec =
-    tie.close
-    (tie.spec
-    Inv-loop
-    μ-loop
-    loop-holds
-    sub-i
-    mul-value
-    shared-slice-read-wide
-    wide-requires
-    add-value
-    loop-less
-    loop-again
-    returns)
+    tie.close (tie.spec Inv-loop μ-loop loop-holds sub-i mul-value shared-slice-read-wide (search needs) add-value loop-less loop-again returns)

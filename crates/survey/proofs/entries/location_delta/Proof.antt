@@ -9,17 +9,8 @@ use Rattle.survey.proofs.Groups.{magnitude-groups, nine-room}
 use Rattle.survey.proofs.entries.location_delta.Statement.{statement}
 use Rattle.survey.proofs.entries.location_delta.Tie as tie
 
-sub-last : tie.Need-sub-last
-sub-last c = search needs
-
 slice-aggregate-groups-then : tie.Need-slice-aggregate-groups-then
 slice-aggregate-groups-then c = sym (length-take-le _ _ (omega arith))
-
-shared-slice-read-wide : tie.Need-shared-slice-read-wide
-shared-slice-read-wide c = search needs
-
-wide-requires : tie.Need-wide-requires
-wide-requires c κs = search needs
 
 groups-then-requires : tie.Need-groups-then-requires
 groups-then-requires c κs =
@@ -34,12 +25,4 @@ returns c =
     c .groups-then .ensures ∙ rw (c .before .wide .ensures .0) (magnitude-groups gs (length gs - 1) (omega arith))
 
 pub location-delta-spec : {M : Type 1} → statement M
-location-delta-spec =
-    tie.close
-    (tie.spec
-    sub-last
-    slice-aggregate-groups-then
-    shared-slice-read-wide
-    wide-requires
-    groups-then-requires
-    returns)
+location-delta-spec = tie.close (tie.spec (search needs) slice-aggregate-groups-then (search needs) (search needs) groups-then-requires returns)

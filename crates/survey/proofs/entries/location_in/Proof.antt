@@ -22,21 +22,6 @@ module _ (c : tie.After-m) where
   is-whole : length (take (c .m .given .0 .0) bytes) ≡ c .m .given .0 .0
   is-whole = length-take-le (c .m .given .0 .0) bytes (whole .inside)
 
-groups-in-requires : tie.Need-groups-in-requires
-groups-in-requires c κs = search needs
-
-enum-known-m : tie.Need-enum-known-m
-enum-known-m c = search needs
-
-enum-told : tie.Need-enum-told
-enum-told c = search needs
-
-least-requires : tie.Need-least-requires
-least-requires c κs = search needs
-
-add-t12 : tie.Need-add-t12
-add-t12 c = search needs
-
 returns : tie.Need-returns
 unfolding withLocation
 returns c =
@@ -58,19 +43,10 @@ slice-aggregate-is-back c = sym (is-whole (c .before .before .before .before))
 is-back-requires : tie.Need-is-back-requires
 is-back-requires c κs = let n = is-whole (c .before .before .before .before) in omega (arith, whole (c .before .before .before .before) .some-bytes)
 
-moved-by-requires : tie.Need-moved-by-requires
-moved-by-requires c κs = search needs
-
-enum-known-to : tie.Need-enum-known-to
-enum-known-to c = search needs
-
 add-t19 : tie.Need-add-t19
 add-t19 c =
     let m = c .before .before .before .before .before .before .before .before .before in
     omega (arith, whole m .nine, m .before .before .before .before .pre)
-
-enum-told-2 : tie.Need-enum-told-2
-enum-told-2 c = search needs
 
 add-t20 : tie.Need-add-t20
 add-t20 c =
@@ -93,22 +69,5 @@ returns-3 c =
 
 pub location-in-spec : {M : Type 1} → statement M
 location-in-spec =
-    tie.close
-    (tie.spec
-    groups-in-requires
-    enum-known-m
-    enum-told
-    least-requires
-    add-t12
-    returns
-    slice-aggregate-location-delta
-    location-delta-requires
-    slice-aggregate-is-back
-    is-back-requires
-    moved-by-requires
-    enum-known-to
-    add-t19
-    enum-told-2
-    add-t20
-    returns-2
-    returns-3)
+    tie.close (tie.spec (search needs) (search needs) (search needs) (search needs) (search needs) returns slice-aggregate-location-delta
+    location-delta-requires slice-aggregate-is-back is-back-requires (search needs) (search needs) add-t19 (search needs) add-t20 returns-2 returns-3)

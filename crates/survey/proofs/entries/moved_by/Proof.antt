@@ -31,9 +31,6 @@ returns-4 c =
     let far : 2 ^ 63 ≤ a .location + a .value = omega arith in
     rw (signed-ahead (a .back) (a .value) (c .before .before .if1 .left), le-ltb _ _ far)
 
-add-t8 : tie.Need-add-t8
-add-t8 c = search needs
-
 returns-5 : tie.Need-returns-5
 unfolding moved if_then_else_
 returns-5 c =
@@ -42,4 +39,4 @@ returns-5 c =
     rw (signed-ahead (a .back) (a .value) (c .before .before .if1 .left), lt-ltb _ _ near)
 
 pub moved-by-spec : {M : Type 1} → statement M
-moved-by-spec = tie.close (tie.spec returns returns-2 returns-3 returns-4 add-t8 returns-5)
+moved-by-spec = tie.close (tie.spec returns returns-2 returns-3 returns-4 (search needs) returns-5)

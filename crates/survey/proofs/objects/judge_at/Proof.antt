@@ -12,53 +12,11 @@ use borrow.Author.Needs.{needs}
 use Rattle.survey.proofs.objects.judge_at.Statement.{statement}
 use Rattle.survey.proofs.objects.judge_at.Tie as tie
 
-add-sum-at : tie.Need-add-sum-at
-add-sum-at c = search needs
-
-sum-at-requires : tie.Need-sum-at-requires
-sum-at-requires c κs = search needs
-
-add-le16-at : tie.Need-add-le16-at
-add-le16-at c = search needs
-
-add-le16-at-2 : tie.Need-add-le16-at-2
-add-le16-at-2 c = search needs
-
-le16-at-requires : tie.Need-le16-at-requires
-le16-at-requires c κs = search needs
-
 returns : tie.Need-returns
 unfolding objectComputed objectStored
 returns c =
     let a = c .before .before .before .before .args in
     other-crc (a .h) (a .src .now) (a .handle) (a .location) (a .field) (a .size) _ _ (c .before .before .sum-at .ensures) (c .before .le16-at .ensures) (c .if1 .taken)
-
-add-from : tie.Need-add-from
-add-from c = search needs
-
-kept-of-requires : tie.Need-kept-of-requires
-kept-of-requires c κs = search needs
-
-add-to : tie.Need-add-to
-add-to c = search needs
-
-format-of-requires : tie.Need-format-of-requires
-format-of-requires c κs = search needs
-
-sub-prologue : tie.Need-sub-prologue
-sub-prologue c = search needs
-
-part-prologue-start : tie.Need-part-prologue-start
-part-prologue-start c = search needs
-
-part-prologue-end : tie.Need-part-prologue-end
-part-prologue-end c = search needs
-
-prologue-requires : tie.Need-prologue-requires
-prologue-requires c κs = search needs
-
-judge-head-requires : tie.Need-judge-head-requires
-judge-head-requires c κs = search needs
 
 returns-2 : tie.Need-returns-2
 unfolding objectComputed objectStored
@@ -72,21 +30,6 @@ returns-2 c =
 
 pub judge-at-spec : {M : Type 1} → statement M
 judge-at-spec =
-    tie.close
-    (tie.spec
-    add-sum-at
-    sum-at-requires
-    add-le16-at
-    add-le16-at-2
-    le16-at-requires
-    returns
-    add-from
-    kept-of-requires
-    add-to
-    format-of-requires
-    sub-prologue
-    part-prologue-start
-    part-prologue-end
-    prologue-requires
-    judge-head-requires
-    returns-2)
+    tie.close (tie.spec (λ c. search needs) (λ c κs. search needs) (λ c. search needs) (λ c. search needs) (λ c κs. search needs) returns
+    (λ c. search needs) (λ c κs. search needs) (λ c. search needs) (λ c κs. search needs) (λ c. search needs) (λ c. search needs) (λ c. search needs)
+    (λ c κs. search needs) (λ c κs. search needs) returns-2)

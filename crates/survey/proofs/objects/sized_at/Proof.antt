@@ -18,26 +18,8 @@ ends : (c : tie.Else2)
     (c .before .before .before .before .args .location + c .before .before .before .before .args .field + c .before .before .before .before .args .size + 2) ≡ true
 ends c = sym (c .before .may-end .ensures) ∙ not-false _ (c .if2 .left)
 
-broken-requires : tie.Need-broken-requires
-broken-requires c κs = search needs
-
 returns : tie.Need-returns
 returns c = let a = c .before .before .before .args in λ rest. no-size (a .h) (a .src .now) (a .handle) (a .location) (a .field) (a .size) rest (c .before .if1 .taken) ∙ ap stop (sym (c .broken .ensures))
-
-add-may-end : tie.Need-add-may-end
-add-may-end c = search needs
-
-add-may-end-2 : tie.Need-add-may-end-2
-add-may-end-2 c = search needs
-
-add-may-end-3 : tie.Need-add-may-end-3
-add-may-end-3 c = search needs
-
-may-end-requires : tie.Need-may-end-requires
-may-end-requires c κs = search needs
-
-broken-requires-2 : tie.Need-broken-requires-2
-broken-requires-2 c κs = search needs
 
 returns-2 : tie.Need-returns-2
 returns-2 c =
@@ -49,15 +31,6 @@ judge-at-requires : tie.Need-judge-at-requires
 judge-at-requires c κs =
     let a = c .before .before .before .before .args in
     (c .before .before .before .before .pre .0, omega (arith, c .before .before .before .before .pre .1, end-inside (a .h) (a .location) _ (ends c)))
-
-enum-known-r : tie.Need-enum-known-r
-enum-known-r c = search needs
-
-enum-known-f : tie.Need-enum-known-f
-enum-known-f c = search needs
-
-broken-requires-3 : tie.Need-broken-requires-3
-broken-requires-3 c κs = search needs
 
 returns-3 : tie.Need-returns-3
 unfolding verdictThen
@@ -76,19 +49,5 @@ returns-4 c =
 
 pub sized-at-spec : {M : Type 1} → statement M
 sized-at-spec =
-    tie.close
-    (tie.spec
-    broken-requires
-    returns
-    add-may-end
-    add-may-end-2
-    add-may-end-3
-    may-end-requires
-    broken-requires-2
-    returns-2
-    judge-at-requires
-    enum-known-r
-    enum-known-f
-    broken-requires-3
-    returns-3
-    returns-4)
+    tie.close (tie.spec (search needs) returns (search needs) (search needs) (search needs) (search needs) (search needs) returns-2 judge-at-requires
+    (search needs) (search needs) (search needs) returns-3 returns-4)

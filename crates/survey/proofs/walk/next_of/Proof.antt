@@ -34,37 +34,19 @@ module _ (c : tie.After-bytes) where
       let s = c .before .before .before .before in
       leads-inside (s .args .h) (s .args .src .now) (s .args .end) (s .args .c) (s .pre .2) (s .pre .3) _ _ _ (s .pre .4) is-leading
 
-entry-at-requires : tie.Need-entry-at-requires
-entry-at-requires c κs = search needs
-
-enum-known-n : tie.Need-enum-known-n
-enum-known-n c = search needs
-
 add-t14 : tie.Need-add-t14
 add-t14 c = let r = refused-bounds (c .before .before) in omega (arith, r .1, c .before .before .before .before .before .before .pre .3)
 
 sub-t15 : tie.Need-sub-t15
 sub-t15 c = let r = refused-bounds (c .before .before) in omega (arith, r .0)
 
-broken-requires : tie.Need-broken-requires
-broken-requires c κs = search needs
-
-enum-known-bytes : tie.Need-enum-known-bytes
-enum-known-bytes c = search needs
-
 object-at-requires : tie.Need-object-at-requires
 object-at-requires c κs =
     let p = c .before .before .before .before .before .pre in
     (p .0, p .1, bounds (c .before) .2)
 
-enum-told : tie.Need-enum-told
-enum-told c = search needs
-
 add-t20 : tie.Need-add-t20
 add-t20 c = let b = bounds (c .before .before .before .before .before) in omega (arith, b .1)
-
-enum-known-q : tie.Need-enum-known-q
-enum-known-q c = search needs
 
 returns : tie.Need-returns
 returns c =
@@ -97,18 +79,5 @@ returns-3 c =
 
 pub next-of-spec : {M : Type 1} → statement M
 next-of-spec =
-    tie.close
-    (tie.spec
-    entry-at-requires
-    enum-known-n
-    add-t14
-    sub-t15
-    broken-requires
-    enum-known-bytes
-    object-at-requires
-    enum-told
-    add-t20
-    enum-known-q
-    returns
-    returns-2
-    returns-3)
+    tie.close (tie.spec (search needs) (search needs) add-t14 sub-t15 (search needs) (search needs) object-at-requires (search needs) add-t20
+    (search needs) returns returns-2 returns-3)

@@ -82,9 +82,6 @@ module _ (c : tie.After-next Inv-loop μ-loop Inv-map μ-map) where
       c .before .before .next-of .ensures .0 rest
       ∙ ap (λ (v : Visit). visitGoes (start (entry .before .before) .args .h) (start (entry .before .before) .args .src .now) end v rest) (c .next .given .1)
 
-map-start-requires : tie.Need-map-start-requires Inv-loop μ-loop Inv-map μ-map
-map-start-requires c κs = search needs
-
 map-holds : tie.Need-map-holds Inv-loop μ-loop Inv-map μ-map
 map-holds c =
     let a = c .before .before .args in
@@ -92,12 +89,6 @@ map-holds c =
 
 chunk-at-requires : tie.Need-chunk-at-requires Inv-loop μ-loop Inv-map μ-map
 chunk-at-requires c κs = let s = c .before .before .before in (s .pre .0, s .pre .2, c .map .inv .1)
-
-enum-known-q : tie.Need-enum-known-q Inv-loop μ-loop Inv-map μ-map
-enum-known-q c = search needs
-
-enum-known-size : tie.Need-enum-known-size Inv-loop μ-loop Inv-map μ-map
-enum-known-size c = search needs
 
 add-end : tie.Need-add-end Inv-loop μ-loop Inv-map μ-map
 add-end c = omega (arith, inside (c .before) .fits, near (start (c .before)))
@@ -119,12 +110,6 @@ next-of-requires c κs =
     let e = c .before .before .before .before in
     let s = start e in
     (s .pre .0, s .pre .1, c .if1 .taken, omega (arith, inside e .fits, s .pre .2), c .before .before .loop .inv .2)
-
-enum-known-q-2 : tie.Need-enum-known-q-2 Inv-loop μ-loop Inv-map μ-map
-enum-known-q-2 c = search needs
-
-enum-known-next : tie.Need-enum-known-next Inv-loop μ-loop Inv-map μ-map
-enum-known-next c = search needs
 
 add-count : tie.Need-add-count Inv-loop μ-loop Inv-map μ-map
 add-count c =
@@ -161,9 +146,6 @@ map-again c =
       ap (λ (k : Listing). more (l .loop .count) (counted k)) (sym (entries-end (s .args .h) (s .args .src .now) _ (l .loop .c) _ (c .if1 .left))) ∙ l .loop .inv .3,
     )
 
-ended-by-requires : tie.Need-ended-by-requires Inv-loop μ-loop Inv-map μ-map
-ended-by-requires c κs = search needs
-
 returns : tie.Need-returns Inv-loop μ-loop Inv-map μ-map
 returns c =
     let m = c .before .before .before in
@@ -188,28 +170,5 @@ returns c =
 
 pub walk-map-spec : {M : Type 1} → statement M
 walk-map-spec =
-    tie.close
-    (tie.spec
-    Inv-loop
-    μ-loop
-    Inv-map
-    μ-map
-    map-start-requires
-    map-holds
-    chunk-at-requires
-    enum-known-q
-    enum-known-size
-    add-end
-    add-t15
-    loop-holds
-    next-of-requires
-    enum-known-q-2
-    enum-known-next
-    add-count
-    loop-less
-    loop-again
-    add-chunk
-    map-less
-    map-again
-    ended-by-requires
-    returns)
+    tie.close (tie.spec Inv-loop μ-loop Inv-map μ-map (search needs) map-holds chunk-at-requires (search needs) (search needs) add-end add-t15
+    loop-holds next-of-requires (search needs) (search needs) add-count loop-less loop-again add-chunk map-less map-again (search needs) returns)
