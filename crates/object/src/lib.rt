@@ -21,8 +21,8 @@ use streaming::Step;
 use streaming::fell;
 
 pub mod fit;
-mod verdict;
-mod words;
+pub mod verdict;
+pub mod words;
 
 // Whether an object may start at a location: behind the header, two bytes inside the source, and not in the map.
 pub fn may_start(h: FlatHeader, location: u64) -> bool

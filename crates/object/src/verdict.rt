@@ -1,8 +1,10 @@
 // An object is whole: its checksum, then its prologue, decide. Behind it the next entry follows, or the next chunk.
+ghost use mathlib.Core.Option.{Option};
 ghost use mathlib.Core.Path.{_≡_};
 ghost use Prim.Native.Nat.{_+_, _≤_, min};
 ghost use Rattle.records.specs.Answer.{ofR2000, headOf};
 ghost use Rattle.rules.specs.Header.{isR2000};
+ghost use Rattle.rules.specs.Prologue.{Prologue};
 ghost use Rattle.rules.specs.Object.{named};
 ghost use Rattle.chunk.specs.Fit.{InChunk};
 ghost use Rattle.object.specs.Object.{leaveObject, keptPrologue, verdictOf, settleVerdict, settleObjectCrc};
@@ -26,7 +28,7 @@ pub enum Judged {
 }
 
 // How the data begins, by the header's release.
-fn format_of(h: FlatHeader) -> RecordFormat
+pub fn format_of(h: FlatHeader) -> RecordFormat
     ensures { λ r. ⌜ ofR2000 r ≡ isR2000 h ⌝ }
 {
     if header::is_r2000(h) {
@@ -36,7 +38,7 @@ fn format_of(h: FlatHeader) -> RecordFormat
 }
 
 // How many bytes of the data are kept.
-fn kept_of(size: u32) -> usize
+pub fn kept_of(size: u32) -> usize
     ensures { λ r. ⌜ r ≡ min size 16 ⌝ }
 {
     if size < 16 {
@@ -57,27 +59,33 @@ fn opening(s: FlatWalker) -> Head
 }
 
 // It has to name the handle that the map gives.
-fn judge(s: FlatWalker) -> Judged
-    ensures { λ r. ⌜ verdictOf r ≡ named (s .map .handle) (s .object) (s .size) (keptPrologue s) ⌝ }
+pub fn judge_head(head: Head, handle: u64, offset: u64, size: u32) -> Judged
+    ensures { λ r. ⌜ ((o : Option Prologue) → head ≡ headOf o → verdictOf r ≡ named handle offset size o) ⌝ }
 {
-    let m = s.map;
-    match opening(s) {
-        Head::Nothing => Judged::Fails(Fault::ObjectHeader(m.handle)),
+    match head {
+        Head::Nothing => Judged::Fails(Fault::ObjectHeader(handle)),
         Head::Read(o) => {
-            if o.handle == m.handle {
+            if o.handle == handle {
                 return Judged::Holds(ObjectRecord {
-                    handle: m.handle,
-                    offset: s.object,
-                    size: s.size,
+                    handle: handle,
+                    offset: offset,
+                    size: size,
                     type_code: o.type_code,
                 });
             }
             Judged::Fails(Fault::ObjectHandle {
-                map: m.handle,
+                map: handle,
                 record: o.handle,
             })
         }
     }
+}
+
+fn judge(s: FlatWalker) -> Judged
+    ensures { λ r. ⌜ verdictOf r ≡ named (s .map .handle) (s .object) (s .size) (keptPrologue s) ⌝ }
+{
+    let m = s.map;
+    judge_head(opening(s), m.handle, s.object, s.size)
 }
 
 // Behind an object the next entry, or the next chunk, 2 bytes of checksum later.

@@ -14,6 +14,7 @@ use Rattle.account.specs.Asking.{span}
 use Rattle.rules.specs.Header.{mapStart, mapSize, mapEnd}
 use Rattle.rules.specs.Entry.{Entry, leads, refused, entryIn, followed, entriesFrom, entriesOf}
 use Rattle.rules.specs.Map.{chunkSize, chunkSizeTurn, askChunks}
+use Rattle.rules.specs.PlainList.{Listing, require, chunkThen, chunksFrom}
 use Rattle.rules.proofs.Entry.{Fits, entry-fits}
 
 module _ (h : FlatHeader) (src : List ℕ) where
@@ -32,6 +33,16 @@ module _ (h : FlatHeader) (src : List ℕ) where
   unfolding mapEnd
   chunks-enough k l = chunks-settle k (mapSize h) (mapStart h) l (omega arith)
 
+  -- and of the plain list
+  pub plain-settle : (j k chunk : ℕ) → k ≤ j → mapEnd h ≤ chunk + k → chunksFrom h src j chunk ≡ chunksFrom h src k chunk
+  unfolding chunksFrom chunkThen require
+  plain-settle zero zero chunk l e = refl
+  plain-settle (suc j) zero chunk l e = rw (lt-leb (chunk + 4) (mapEnd h) (omega arith))
+  plain-settle zero (suc k) chunk l e = absurd (omega arith)
+  plain-settle (suc j) (suc k) chunk l e =
+      ap (λ (rest : Listing). chunkThen h src chunk (chunkSize src chunk) rest)
+      (plain-settle j k (chunk + chunkSize src chunk + 2) (omega arith) (omega arith))
+
 -- what follows an entry matters only behind its bytes, of which there is one at least
 followed-alike : (room : ℕ) (e : Entry) (f g : (bytes handle location : ℕ) → List Entry) → Fits room e
     → ((n handle location : ℕ) → 1 ≤ n → f n handle location ≡ g n handle location) → followed e f ≡ followed e g
@@ -39,7 +50,7 @@ unfolding followed
 followed-alike room (leads bytes handle location) f g s k = ap (λ es. leads bytes handle location ∷ es) (k bytes handle location (omega (arith, s .0)))
 followed-alike room (refused bytes) f g s k = refl
 
-entries-settle : (j k handle location : ℕ) (bytes : List ℕ) → k ≤ j → length bytes ≤ k
+pub entries-settle : (j k handle location : ℕ) (bytes : List ℕ) → k ≤ j → length bytes ≤ k
     → entriesFrom j handle location bytes ≡ entriesFrom k handle location bytes
 unfolding entriesFrom
 entries-settle zero zero handle location bytes l e = refl

@@ -24,7 +24,7 @@ use streaming::Stage;
 
 mod hand;
 mod pieces;
-mod sentinels;
+pub mod sentinels;
 mod settle;
 
 // The sentinels, the size and the checksum.

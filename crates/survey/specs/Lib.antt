@@ -1,0 +1,4 @@
+pub mod Survey
+pub mod Entries
+pub mod Goes
+pub mod Counting
