@@ -1,0 +1,12 @@
+pub mod Main
+pub mod Over
+pub mod Rest
+pub mod Reading
+pub mod Entries
+pub mod Near
+pub mod Visits
+pub mod Either
+pub mod Filling
+pub mod Shape
+pub mod TwoWays
+pub mod WholeCase
