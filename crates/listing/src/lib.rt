@@ -1,9 +1,10 @@
 // The one-shot walk into a list of the function's own, which is handed back by value.
 ghost use mathlib.Core.Path.{_≡_};
-ghost use Prim.Native.Nat.{min};
+ghost use Prim.Native.Nat.{_+_, min};
+ghost use lib.ListN.{drop};
 ghost use Rattle.survey.specs.Survey.{surveyOf};
 ghost use Rattle.oneshot.specs.OneShot.{withRoom};
-ghost use Rattle.listing.specs.Listing.{mostPlaces, listAfterLent};
+ghost use Rattle.listing.specs.Listing.{mostPlaces, listAfterLent, isMark, marked};
 use oneshot::walk;
 use streaming::FlatHeader;
 use streaming::ObjectRecord;
@@ -39,4 +40,25 @@ pub fn fill(h: FlatHeader, src: &[u8], places: usize) -> Listed
     }; 4096];
     let walked = walk(h, src, &mut list[..n]);
     Listed { walked, list }
+}
+
+fn is_mark(r: ObjectRecord) -> bool
+    ensures { λ b. ⌜ b ≡ isMark r ⌝ }
+{
+    (r.handle == 1) & (r.offset == 2) & (r.size == 0) & (r.type_code == 3)
+}
+
+// The first place from a place on that does not hold the mark; behind the list's end there is none that does.
+pub fn first_other(list: [ObjectRecord; 4096], at: usize) -> usize
+    ensures { λ r. ⌜ r ≡ at + marked (drop at list) ⌝ }
+{
+    let mut i = at;
+    while i < 4096 {
+        let r = list[i];
+        if !is_mark(r) {
+            return i;
+        }
+        i += 1;
+    }
+    i
 }
