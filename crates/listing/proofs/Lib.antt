@@ -1,3 +1,4 @@
 pub mod Fronts
 pub mod Marked
 pub mod Others
+pub mod Within
