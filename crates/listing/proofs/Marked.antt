@@ -13,7 +13,7 @@ use denote.Array.{Array, arrayVal, each}
 use denote.Struct.Field.{array-field}
 use denote.Struct.Declared.{Declared, row, field}
 
-replicate-sum : {A : Type 0} (k m : ℕ) (x : A) → replicate (k + m) x ≡ replicate k x ++ replicate m x
+pub replicate-sum : {A : Type 0} (k m : ℕ) (x : A) → replicate (k + m) x ≡ replicate k x ++ replicate m x
 replicate-sum {A} zero m x = ap (λ (j : ℕ). replicate j x) (zero-add m)
 replicate-sum {A} (suc k) m x = ap (λ (j : ℕ). replicate j x) (suc-add k m) ∙ ap (λ (l : List A). x ∷ l) (replicate-sum k m x)
 

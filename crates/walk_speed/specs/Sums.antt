@@ -16,7 +16,7 @@ use Rattle.streaming.specs.declared.FlatWalker.{FlatWalker}
 use Rattle.streaming.specs.declared.Fed.{Fed}
 use Rattle.streaming.specs.declared.ObjectRecord.{ObjectRecord}
 use Rattle.account.specs.Statement.{part}
-use Rattle.flat.specs.Flat.{startOf, requestOf, feedOf}
+use Rattle.flat.specs.Flat.{requestOf, feedOf}
 use Rattle.survey.specs.Survey.{surveyOf}
 use Rattle.oneshot.specs.Cursor.{blank}
 use Rattle.oneshot.specs.OneShot.{withRoom}

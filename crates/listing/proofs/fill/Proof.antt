@@ -1,5 +1,5 @@
 -- `fill` meets its contract: a walk of its MIR, by hand. A local array is made, its front is lent to `walk` for a lifetime that is made for the call, and it comes home at the list that `walk`'s contract says.
-use mathlib.Core.Path.{_≡_, refl, sym, _∙_, ap}
+use mathlib.Core.Path.{_≡_, refl, _∙_, ap}
 use Prim.Native.Nat.{ℕ, _+_, _-_, _<_, _≤_, _^_, min}
 use native.Mathlib.Omega.{arith}
 use mathlib.Core.List.{[], _∷_, List, _++_}
