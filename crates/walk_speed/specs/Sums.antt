@@ -1,6 +1,9 @@
 -- What the speed command times: turns of a walk over a source in hand, and the sizes of the objects that they commit.
-use Prim.Native.Nat.{ℕ, zero, suc, _+_, min}
+use Prim.Native.Nat.{ℕ, zero, suc, _+_, _-_, min}
 use mathlib.Core.List.{List, [], _∷_}
+use lib.ListN.{getD}
+use lib.Dec.{ltb, eqb}
+use Rattle.streaming.specs.Choose.{if_then_else_}
 use Rattle.streaming.specs.declared.Step.{Step}
 use Rattle.streaming.specs.declared.Step.the-variants as step
 use Rattle.streaming.specs.declared.Answer.{Answer}
@@ -11,8 +14,13 @@ use Rattle.streaming.specs.declared.Locator.{Locator}
 use Rattle.streaming.specs.declared.FlatHeader.{FlatHeader}
 use Rattle.streaming.specs.declared.FlatWalker.{FlatWalker}
 use Rattle.streaming.specs.declared.Fed.{Fed}
+use Rattle.streaming.specs.declared.ObjectRecord.{ObjectRecord}
 use Rattle.account.specs.Statement.{part}
-use Rattle.flat.specs.Flat.{startOf, requestOf, feedOf}
+use Rattle.flat.specs.Flat.{requestOf, feedOf}
+use Rattle.survey.specs.Survey.{surveyOf}
+use Rattle.oneshot.specs.Cursor.{blank}
+use Rattle.oneshot.specs.OneShot.{withRoom}
+use Rattle.listing.specs.Listing.{mostPlaces, listAfterLent}
 
 -- the size of the object that is committed
 abbrev pub sizeIn : Step → ℕ
@@ -51,3 +59,11 @@ headerOf length vars varsSize classes classesSize map mapSize = record {
   locators = locatorAt 0 vars varsSize ∷ locatorAt 1 classes classesSize ∷ locatorAt 2 map mapSize ∷ locatorAt 0 0 0 ∷ locatorAt 0 0 0 ∷ locatorAt 0 0 0 ∷ [];
   length = length
 }
+
+-- the size of the last of so many records, if a list has them and there is one
+unfoldable pub lastSize : List ObjectRecord → (count : ℕ) → ℕ
+lastSize list count = if eqb count 0 then 0 else if ltb mostPlaces count then 0 else getD list (count - 1) blank .size
+
+-- of the list that the one-shot walk fills
+abbrev pub lastOf : FlatHeader → (src : List ℕ) → ℕ
+lastOf h src = lastSize (listAfterLent h src mostPlaces) (withRoom mostPlaces (surveyOf h src) .count)

@@ -1,10 +1,11 @@
-// What the speed command times: one walk by calls over a source in hand, in pieces of a given length.
+// What the speed command times: one walk over a source in hand, by calls, in pieces of a given length, or in one call.
 ghost use mathlib.Core.Path.{_≡_};
 ghost use Prim.Native.Nat.{_<_, _^_, _≤_, min};
 ghost use lib.ListN.{length};
 ghost use Rattle.account.specs.Statement.{part};
 ghost use Rattle.flat.specs.Flat.{startOf, feedOf};
-ghost use Rattle.walk_speed.specs.Sums.{sizeIn, sizeOf, turnOf, sumOf, headerOf};
+ghost use Rattle.survey.specs.Survey.{surveyOf};
+ghost use Rattle.walk_speed.specs.Sums.{sizeIn, sizeOf, turnOf, sumOf, headerOf, lastSize, lastOf};
 use octets::least;
 use streaming::Answer;
 use streaming::Asked;
@@ -12,6 +13,7 @@ use streaming::Fed;
 use streaming::FlatHeader;
 use streaming::FlatWalker;
 use streaming::Locator;
+use streaming::ObjectRecord;
 use streaming::Request;
 use streaming::Step;
 
@@ -76,10 +78,9 @@ fn sum(begun: FlatWalker, source: &[u8], cut: u64, turns: u32) -> u64
     total
 }
 
-// An R2000 drawing with three locators is walked.
-#[no_mangle]
-pub extern "C" fn walk_once(source: &[u8], vars: u32, vars_size: u32, classes: u32, classes_size: u32, map: u32, map_size: u32, cut: u64, turns: u32) -> u64
-    ensures { λ r. ⌜ r ≡ sumOf turns (startOf (headerOf (length (now (source .entry))) vars «vars_size» classes «classes_size» map «map_size») .state) (now (source .entry)) cut ⌝ }
+// An R2000 drawing with three locators.
+fn header(bytes: u64, vars: u32, vars_size: u32, classes: u32, classes_size: u32, map: u32, map_size: u32) -> FlatHeader
+    ensures { λ r. ⌜ r ≡ headerOf bytes vars «vars_size» classes «classes_size» map «map_size» ⌝ }
 {
     let none = Locator {
         number: 0,
@@ -102,12 +103,63 @@ pub extern "C" fn walk_once(source: &[u8], vars: u32, vars_size: u32, classes: u
         offset: map,
         size: map_size,
     };
-    let started = flat::start(FlatHeader {
+    FlatHeader {
         magic: *b"AC1015",
         count: 3,
         locators,
-        length: source.len() as u64,
-    });
+        length: bytes,
+    }
+}
+
+// It is walked by calls.
+#[no_mangle]
+pub extern "C" fn walk_once(source: &[u8], vars: u32, vars_size: u32, classes: u32, classes_size: u32, map: u32, map_size: u32, cut: u64, turns: u32) -> u64
+    ensures { λ r. ⌜ r ≡ sumOf turns (startOf (headerOf (length (now (source .entry))) vars «vars_size» classes «classes_size» map «map_size») .state) (now (source .entry)) cut ⌝ }
+{
+    let h = header(source.len() as u64, vars, vars_size, classes, classes_size, map, map_size);
+    let started = flat::start(h);
     let begun = started.state;
     sum(begun, source, cut, turns)
+}
+
+// It is walked in one call that counts its objects.
+#[no_mangle]
+pub extern "C" fn survey_once(source: &[u8], vars: u32, vars_size: u32, classes: u32, classes_size: u32, map: u32, map_size: u32) -> u64
+    ensures { λ r. ⌜ r ≡ surveyOf (headerOf (length (now (source .entry))) vars «vars_size» classes «classes_size» map «map_size») (now (source .entry)) .count ⌝ }
+{
+    let h = header(source.len() as u64, vars, vars_size, classes, classes_size, map, map_size);
+    survey::survey(h, source).count as u64
+}
+
+fn size(r: ObjectRecord) -> u64
+    ensures { λ n. ⌜ n ≡ r .size ⌝ }
+{
+    r.size as u64
+}
+
+// The size of the last of so many records, if there is one.
+fn last_size(list: [ObjectRecord; 4096], count: usize) -> u64
+    ensures { λ r. ⌜ r ≡ lastSize list count ⌝ }
+{
+    if count == 0 {
+        return 0;
+    }
+    if 4096 < count {
+        return 0;
+    }
+    let last = count - 1;
+    let r = list[last];
+    size(r)
+}
+
+// It is walked in one call that fills a list: the size of its last object.
+#[no_mangle]
+pub extern "C" fn fill_once(source: &[u8], vars: u32, vars_size: u32, classes: u32, classes_size: u32, map: u32, map_size: u32) -> u64
+    ensures { λ r. ⌜ r ≡ lastOf (headerOf (length (now (source .entry))) vars «vars_size» classes «classes_size» map «map_size») (now (source .entry)) ⌝ }
+{
+    let h = header(source.len() as u64, vars, vars_size, classes, classes_size, map, map_size);
+    let listed = listing::fill(h, source, 4096);
+    let walked = listed.walked;
+    let list = listed.list;
+    last_size(list, walked.count)
 }
