@@ -72,6 +72,11 @@ module _ (h : FlatHeader) (src : List ℕ) (cuts : Cuts) (set : Walkable h src c
   piece-chosen offset len e =
       chosen src cuts turn (set .cutting) turning (requestOf s) (length src) offset len (λ r d. demand-some s r d) refl (sym (next-found ∙ e))
 
+  -- what is found is a piece, and it is rightly chosen
+  pub piece-next : (offset len : ℕ) → n ≡ next.Piece offset len
+      → (nextBy (requestOf s) (length src) cuts turn ≡ next.Piece offset len) × Chosen src (requestOf s) offset len
+  piece-next offset len e = (next-found ∙ e, piece-chosen offset len e)
+
   pub all-past : n ≡ next.Over → Past src (requestOf s)
   all-past e = past src cuts turn (set .cutting) turning (requestOf s) (length src) refl (sym (next-found ∙ e))
 

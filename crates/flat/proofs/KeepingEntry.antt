@@ -60,8 +60,14 @@ module _ (s : FlatWalker) (taken : Taken s) (own : (t : FlatWalker) → fitAt (s
   unfolding inChunk
   led location near =
       record {
-        chunk = in-its-chunk; low = omega (arith, shows .low); high = omega (arith, shows .high);
-        field = refl; shift = refl; mc = refl; located = refl; near = near;
+        chunk = in-its-chunk;
+        low = omega (arith, shows .low);
+        high = omega (arith, shows .high);
+        field = refl;
+        shift = refl;
+        mc = refl;
+        located = refl;
+        near = near;
       }
 
   at-location : (l : Option ℕ) → Near l → Keeps (settleLocation s l .state)

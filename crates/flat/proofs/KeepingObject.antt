@@ -81,8 +81,14 @@ module _ (s : FlatWalker) (taken : Taken s) (own : (t : FlatWalker) → fitAt (s
       let behind = shows .behind known in
       in-data done (s .size) crc field head (s .«ms_len») (s .words)
       (record {
-        some = omega arith; few = shows .words; bytes = bytes; more = shows .some known; ends = shows .ends known;
-        behind = omega arith; inside = inside; sized = shows .sized;
+        some = omega arith;
+        few = shows .words;
+        bytes = bytes;
+        more = shows .some known;
+        ends = shows .ends known;
+        behind = omega arith;
+        inside = inside;
+        sized = shows .sized;
       })
 
   -- ---- what settles
@@ -95,8 +101,14 @@ module _ (s : FlatWalker) (taken : Taken s) (own : (t : FlatWalker) → fitAt (s
       (λ e. in-both (λ (r : Fed). Keeps (r .state)) (mayEnd (s .header) (s .object) (s .object + done + size + 2))
       (λ k. in-data done size crc field (s .head) done (s .words + 1)
       (record {
-        some = omega arith; few = omega arith; bytes = omega arith; more = ltb-true _ _ e; ends = k;
-        behind = omega arith; inside = omega arith; sized = sized;
+        some = omega arith;
+        few = omega arith;
+        bytes = omega arith;
+        more = ltb-true _ _ e;
+        ends = k;
+        behind = omega arith;
+        inside = omega arith;
+        sized = sized;
       }))
       (λ k. keeps-failing s _))
       (λ e. keeps-failing s _)
@@ -119,7 +131,14 @@ module _ (s : FlatWalker) (taken : Taken s) (own : (t : FlatWalker) → fitAt (s
   led =
       let o = shows in
       record {
-        chunk = in-its-chunk s fit; low = o .low; high = o .high; field = o .field; shift = o .shift; mc = o .mc; located = o .located; near = omega arith
+        chunk = in-its-chunk s fit;
+        low = o .low;
+        high = o .high;
+        field = o .field;
+        shift = o .shift;
+        mc = o .mc;
+        located = o .located;
+        near = omega arith;
       }
 
   at-verdict : (field : List ℕ) (v : Verdict) → Keeps (settleVerdict s field v .state)

@@ -39,9 +39,9 @@ module _ (w : Walked) (l : List ObjectRecord) (k most : ℕ) (counted : w .count
   with-room : length l ≤ k → length l + marked (drop (length l) ((l ++ drop (length l) (replicate k mark)) ++ rest)) ≡ most
   with-room room =
       let behind : marked (drop (length l) ((l ++ drop (length l) (replicate k mark)) ++ rest)) ≡ (k - length l) + (most - k) =
-          ap (λ (z : List ObjectRecord). marked (drop (length l) z)) (append-assoc l (drop (length l) (replicate k mark)) rest)
-          ∙ ap marked (drop-append-seam l (drop (length l) (replicate k mark) ++ rest)) ∙ ap (λ (z : List ObjectRecord). marked (z ++ rest)) (marks-behind (length l) k room)
-          ∙ marks-joined (k - length l) (most - k) in
+      ap (λ (z : List ObjectRecord). marked (drop (length l) z)) (append-assoc l (drop (length l) (replicate k mark)) rest)
+      ∙ ap marked (drop-append-seam l (drop (length l) (replicate k mark) ++ rest)) ∙ ap (λ (z : List ObjectRecord). marked (z ++ rest)) (marks-behind (length l) k room)
+      ∙ marks-joined (k - length l) (most - k) in
       omega (arith, behind, room, fits)
 
   pub rest-marked : withRoom k w .count + marked (drop (withRoom k w .count) (frontOf (replicate k mark) l ++ rest)) ≡ most

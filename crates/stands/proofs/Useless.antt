@@ -86,7 +86,7 @@ pub silent-fails : Meets Of rules silent → ⊥
 unfolding Meets answerOf after every-rule
 silent-fails meets =
     let f = meets wholeHeader whole (wholeCase .is-whole) (at 70 16 ∷ at 86 4 ∷ at 90 2 ∷ at 92 16 ∷ [])
-        (λ t. refl, (λ t. refl, (λ t. refl, (λ t. refl, tt)))) in
+    (λ t. refl, (λ t. refl, (λ t. refl, (λ t. refl, tt)))) in
     let s = run silent (begun wholeHeader) (at 70 16 ∷ at 86 4 ∷ at 90 2 ∷ []) in
     let e : [] ≡ S HeaderVars 70 0 ∷ [] = sym (hushed-commits (flatFeed s (at 92 16) .0)) ∙ ap committedIn (f .2 .2 .2 .1) in
     let z : _≡_ {A = ℕ} 0 1 = ap length e in omega arith

@@ -57,7 +57,7 @@ headerOf length vars varsSize classes classesSize map mapSize = record {
   magic = 0x41 ∷ 0x43 ∷ 0x31 ∷ 0x30 ∷ 0x31 ∷ 0x35 ∷ [];
   count = 3;
   locators = locatorAt 0 vars varsSize ∷ locatorAt 1 classes classesSize ∷ locatorAt 2 map mapSize ∷ locatorAt 0 0 0 ∷ locatorAt 0 0 0 ∷ locatorAt 0 0 0 ∷ [];
-  length = length
+  length = length;
 }
 
 -- the size of the last of so many records, if a list has them and there is one

@@ -6,7 +6,7 @@ use borrow.Author.Needs.{needs}
 use Rattle.driving.specs.Ran.{mostBytes, Ran}
 use Rattle.driving.proofs.Chosen.{Turning, turning-first, turning-after}
 use Rattle.driving.proofs.Runs.{none-yet, one-more, nearer, ran-whole}
-use Rattle.driving.proofs.Driven.{next-found, piece-chosen, all-past}
+use Rattle.driving.proofs.Driven.{next-found, piece-chosen, piece-next, all-past}
 use Rattle.driving.proofs.walk.Statement.{statement}
 use Rattle.driving.proofs.walk.Tie as tie
 
@@ -60,11 +60,9 @@ loop-less c =
     let l = f .before .before .loop in
     let start = f .before .before .before .before .before in
     let a = start .args in
-    let found = next-found (a .h) (a .source .now) (a .cuts) (start .pre .0) (l .state) (l .turn) (l .inv .1) (f .before .request .result) (f .before .request .ensures)
-    (f .choose .result) (f .choose .ensures) ∙ n .1 in
-    let chosen = piece-chosen (a .h) (a .source .now) (a .cuts) (start .pre .0) (l .state) (l .turn) (l .inv .1) (f .before .request .result) (f .before .request .ensures)
+    let p = piece-next (a .h) (a .source .now) (a .cuts) (start .pre .0) (l .state) (l .turn) (l .inv .1) (f .before .request .result) (f .before .request .ensures)
     (f .choose .result) (f .choose .ensures) (n .0 .0) (n .0 .1 .0) (n .1) in
-    nearer (a .h) (a .source .now) (a .cuts) (start .pre .0) (l .turn) (l .state) (l .tally) (l .inv .0) (n .0 .0) (n .0 .1 .0) found chosen
+    nearer (a .h) (a .source .now) (a .cuts) (start .pre .0) (l .turn) (l .state) (l .tally) (l .inv .0) (n .0 .0) (n .0 .1 .0) (p .0) (p .1)
     (c .turn-after .result) (k .take .result .state) (k .take .result .tally) (c .turn-after .ensures) (k .take .ensures .1 .0) (k .take .ensures .1 .1)
 
 loop-again : tie.Need-loop-again Inv-loop μ-loop
@@ -75,11 +73,9 @@ loop-again c =
     let l = f .before .before .loop in
     let start = f .before .before .before .before .before in
     let a = start .args in
-    let found = next-found (a .h) (a .source .now) (a .cuts) (start .pre .0) (l .state) (l .turn) (l .inv .1) (f .before .request .result) (f .before .request .ensures)
-    (f .choose .result) (f .choose .ensures) ∙ n .1 in
-    let chosen = piece-chosen (a .h) (a .source .now) (a .cuts) (start .pre .0) (l .state) (l .turn) (l .inv .1) (f .before .request .result) (f .before .request .ensures)
+    let p = piece-next (a .h) (a .source .now) (a .cuts) (start .pre .0) (l .state) (l .turn) (l .inv .1) (f .before .request .result) (f .before .request .ensures)
     (f .choose .result) (f .choose .ensures) (n .0 .0) (n .0 .1 .0) (n .1) in (
-      one-more (a .h) (a .source .now) (a .cuts) (start .pre .0) (l .turn) (l .state) (l .tally) (l .inv .0) (n .0 .0) (n .0 .1 .0) found chosen
+      one-more (a .h) (a .source .now) (a .cuts) (start .pre .0) (l .turn) (l .state) (l .tally) (l .inv .0) (n .0 .0) (n .0 .1 .0) (p .0) (p .1)
           (c .turn-after .result) (k .take .result .state) (k .take .result .tally) (c .turn-after .ensures) (k .take .ensures .1 .0) (k .take .ensures .1 .1),
       turning-after (a .cuts) (l .turn) (c .turn-after .result) (start .pre .0 .cutting) (c .turn-after .ensures),
     )

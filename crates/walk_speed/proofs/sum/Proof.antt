@@ -43,9 +43,10 @@ loop-again : tie.Need-loop-again Inv-loop μ-loop
 loop-again c =
     let at = c .before .before .before .before in
     let args = at .before .before .args in
-    let e : at .loop .left ≡ suc (at .loop .left - 1) = omega arith in
-    (goes-on (args .source .now) (args .cut) (at .loop .s) _ _ _ _ _ _ e (at .loop .inv .0) (c .before .before .turn .ensures) (c .size-of .ensures .0),
-    omega (arith, at .loop .inv .1, c .size-of .ensures .1))
+    let e : at .loop .left ≡ suc (at .loop .left - 1) = omega arith in (
+      goes-on (args .source .now) (args .cut) (at .loop .s) _ _ _ _ _ _ e (at .loop .inv .0) (c .before .before .turn .ensures) (c .size-of .ensures .0),
+      omega (arith, at .loop .inv .1, c .size-of .ensures .1),
+    )
 
 returns : tie.Need-returns Inv-loop μ-loop
 returns c =
