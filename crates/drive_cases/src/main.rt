@@ -14,14 +14,7 @@ fn buffer() -> [u8; 200000]
 fn size(s: &[u8]) -> usize
     ensures { λ r. ⌜ (r ≡ caseSize (now (s .entry))) × (r ≤ length (now (s .entry))) ⌝ }
 {
-    if s.len() < 4 {
-        return 0;
-    }
-    let n = 4 + octets::number_at(s, 0, 4) as usize;
-    if s.len() < n {
-        return 0;
-    }
-    n
+    octets::counted_size(s, 0)
 }
 
 fn cases(s: &[u8]) {

@@ -1,3 +1,4 @@
 pub mod Laws
 pub mod Sameness
 pub mod Sets
+pub mod Counted

@@ -4,7 +4,7 @@ ghost use mathlib.Core.List.{[], _∷_};
 ghost use Prim.Native.Nat.{_+_, _≤_, _<_, _^_, min};
 ghost use lib.ListN.{length, take, drop};
 ghost use lib.Seq.{sets};
-ghost use Rattle.octets.specs.Octets.{littleEndian, bigEndian};
+ghost use Rattle.octets.specs.Octets.{littleEndian, bigEndian, countedSize};
 ghost use Rattle.octets.specs.Octets.{same as Octets·same};
 
 fn wide(b: u8) -> u64
@@ -43,6 +43,24 @@ pub fn number_at(s: &[u8], at: usize, n: usize) -> u64
         value = 256 * value + wide(s[at + i]);
     }
     value
+}
+
+// The bytes of what begins s: the last four bytes of its front, from a place on, count the bytes behind it. 0 where it is cut short.
+pub fn counted_size(s: &[u8], at: usize) -> usize
+    ensures { λ r. ⌜ (r ≡ countedSize (now (s .entry)) at) × (r ≤ length (now (s .entry))) ⌝ }
+{
+    let len = s.len();
+    if len < 4 {
+        return 0;
+    }
+    if len - 4 < at {
+        return 0;
+    }
+    let n = number_at(s, at, 4) as usize;
+    if len - 4 - at < n {
+        return 0;
+    }
+    at + 4 + n
 }
 
 // Whether two slices have the same bytes.

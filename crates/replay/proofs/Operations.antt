@@ -6,7 +6,7 @@ use mathlib.Core.List.{List}
 use lib.ListN.{length, take, drop, getD}
 use lib.Dec.{ltb, eqb}
 use native.Mathlib.Omega.{arith}
-use borrow.Author.Tests.{ltb-true, ltb-false, lt-ltb, le-ltb, eq-eqb}
+use borrow.Author.Tests.{ltb-true, ltb-false, lt-ltb, eq-eqb}
 use Rattle.streaming.specs.Choose.{if_then_else_}
 use Rattle.streaming.specs.declared.FlatWalker.{FlatWalker}
 use Rattle.streaming.specs.declared.Fed.{Fed}
@@ -14,6 +14,7 @@ use Rattle.flat.specs.Flat.{feedOf}
 use Rattle.replay.specs.Form.{isBare, stateSize, feedSize, sizeOf}
 use Rattle.replay.specs.Parse.{numberAt}
 use Rattle.replay.specs.Answers.{fedBy}
+use Rattle.octets.proofs.Counted.{cut-short}
 
 both : (v : Bool) → _≡_ {A = ℕ} (if v then 0 else 0) 0
 unfolding if_then_else_
@@ -37,11 +38,11 @@ module _ (s : List ℕ) where
 
   feed-short : getD s 0 0 ≡ 70 → length s < 13 → sizeOf s ≡ 0
   unfolding sizeOf isBare feedSize if_then_else_
-  feed-short e h = rw (e, lt-ltb (length s) 13 h) (both (eqb (length s) 0))
+  feed-short e h = rw (e, ← cut-short s 9 (numberAt s 9 4) refl (omega arith)) (both (eqb (length s) 0))
 
   piece-short : getD s 0 0 ≡ 70 → 13 ≤ length s → length s < 13 + numberAt s 9 4 → sizeOf s ≡ 0
   unfolding sizeOf isBare feedSize if_then_else_
-  piece-short e h k = rw (e, le-ltb (length s) 13 h, lt-ltb (length s) (13 + numberAt s 9 4) k) (both (eqb (length s) 0))
+  piece-short e h k = rw (e, ← cut-short s 9 (numberAt s 9 4) refl k) (both (eqb (length s) 0))
 
 -- ---- what is well-formed is long enough
 

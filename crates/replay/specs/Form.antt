@@ -1,11 +1,11 @@
 -- The form of the input: operations one after another, each a letter and what follows it (oracle/README.md, `replay`).
-use Prim.Native.Nat.{ℕ, zero, suc, _+_}
+use Prim.Native.Nat.{ℕ, zero, suc}
 use mathlib.Core.Bool.{Bool, true, _&&_, _||_}
 use mathlib.Core.List.{List}
-use lib.ListN.{length, take, drop, getD}
+use lib.ListN.{length, drop, getD}
 use lib.Dec.{eqb, ltb, leb}
 use Rattle.streaming.specs.Choose.{if_then_else_}
-use Rattle.octets.specs.Octets.{littleEndian}
+use Rattle.octets.specs.Octets.{countedSize}
 
 -- `R`, `N`, `C` and `T` have nothing after them
 unfoldable pub isBare : (letter : ℕ) → Bool
@@ -17,8 +17,7 @@ stateSize s = if ltb (length s) 157 then 0 else (if leb 1 (getD s 70 0) && leb (
 
 -- `F`: an offset of 8 bytes, a count of 4 and as many bytes
 unfoldable pub feedSize : List ℕ → ℕ
-feedSize s = if ltb (length s) 13 then 0 else
-    (if ltb (length s) (13 + littleEndian (take 4 (drop 9 s))) then 0 else 13 + littleEndian (take 4 (drop 9 s)))
+feedSize s = countedSize s 9
 
 -- the bytes of the operation that begins a list, 0 where there is none or a malformed one; `H` is followed by a header, 69 bytes
 unfoldable pub sizeOf : List ℕ → ℕ

@@ -26,14 +26,7 @@ fn state_size(s: &[u8]) -> usize
 fn feed_size(s: &[u8]) -> usize
     ensures { λ r. ⌜ (r ≡ feedSize (now (s .entry))) × (r ≤ length (now (s .entry))) ⌝ }
 {
-    if s.len() < 13 {
-        return 0;
-    }
-    let n = 13 + octets::number_at(s, 9, 4) as usize;
-    if s.len() < n {
-        return 0;
-    }
-    n
+    octets::counted_size(s, 9)
 }
 
 // The bytes of the operation that begins s, or 0 where it is malformed.

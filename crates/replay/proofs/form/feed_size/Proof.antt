@@ -1,24 +1,12 @@
 -- `feed_size` meets its contract.
 use borrow.Author.Needs.{needs}
-use native.Mathlib.Omega.{arith}
-use borrow.Author.Tests.{lt-ltb, le-ltb}
-use Rattle.streaming.specs.Choose.{if_then_else_}
 use Rattle.replay.specs.Form.{feedSize}
 use Rattle.replay.proofs.form.feed_size.Statement.{statement}
 use Rattle.replay.proofs.form.feed_size.Tie as tie
 
 returns : tie.Need-returns
-unfolding feedSize if_then_else_
-returns c = (rw (lt-ltb _ _ (c .if1 .taken)), omega arith)
-
-returns-2 : tie.Need-returns-2
-unfolding feedSize if_then_else_
-returns-2 c = (rw (le-ltb _ _ (c .before .before .if1 .left), ← c .before .number-at .ensures .0) (rw (lt-ltb _ _ (c .if2 .taken))), omega arith)
-
-returns-3 : tie.Need-returns-3
-unfolding feedSize if_then_else_
-returns-3 c = (rw (le-ltb _ _ (c .before .before .if1 .left), ← c .before .number-at .ensures .0) (rw (le-ltb _ _ (c .if2 .left))), omega arith)
+unfolding feedSize
+returns c = c .counted-size .ensures
 
 pub feed-size-spec : {M : Type 1} → statement M
-feed-size-spec =
-    tie.close (tie.spec returns (search needs) (search needs) returns-2 returns-3)
+feed-size-spec = tie.close (tie.spec (search needs) returns)
