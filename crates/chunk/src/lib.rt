@@ -1,4 +1,6 @@
 // Stage Chunk: a chunk of the object map, its size, its entries and its checksum, before the entries are walked.
+#![tactic(auto)]
+
 ghost use Rattle.std.specs.Prelude.{◌≡◌, true, ◌+◌, ◌<◌, ◌≤◌, ◌^◌, length};
 ghost use Rattle.chunk.specs.Chunk.{enter_chunk, request_chunk};
 ghost use Rattle.chunk.specs.Chunk.{feed_chunk_size, feed_chunk_entries, feed_chunk_crc, feed_chunk};

@@ -1,4 +1,6 @@
 // The drawing's 16-bit checksum: `crc8` of src/crc.rs, by eight bytes at a time, and the plain path that it must equal.
+#![tactic(auto)]
+
 ghost use Rattle.std.specs.Prelude.{◌≡◌, ◌<◌, ◌%◌, ◌/◌, length};
 ghost use Rattle.std.specs.Int.Bits.{bit_xor};
 ghost use Rattle.crc.specs.Crc.{crc_byte, crc_of};

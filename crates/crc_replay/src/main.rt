@@ -1,5 +1,7 @@
 // Answers operations on the checksum, so that its answers can be compared with the Rust's (oracle/README.md has the form).
 // `E` row place: an entry of the table. `C`, `P`, `L` seed length bytes: `crc8`, the plain path, the path with a lent table.
+#![tactic(auto)]
+
 ghost use Rattle.std.specs.Prelude.{◌≤◌, length};
 ghost use Rattle.crc.specs.Rows.{Table};
 

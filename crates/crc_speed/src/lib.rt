@@ -1,4 +1,6 @@
 // What the speed command times: the checksum over one piece many times, each from the result of the last, with one lent table.
+#![tactic(auto)]
+
 ghost use Rattle.std.specs.Prelude.{◌≡◌};
 ghost use Rattle.crc_speed.specs.Times.{crc_times};
 

@@ -1,4 +1,6 @@
 // The driver on a list of inputs, one after another, each behind its length: what it prints for each, and a line `-` behind it.
+#![tactic(auto)]
+
 ghost use Rattle.std.specs.Prelude.{◌≡◌, ◌≤◌, length};
 ghost use Rattle.drive_cases.specs.Cases.{case_size};
 

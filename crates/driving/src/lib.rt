@@ -1,4 +1,6 @@
 // The driver of document 01: walks the source of an input in pieces, prints a line for each record and the lines of the ending.
+#![tactic(auto)]
+
 ghost use Rattle.std.specs.Prelude.{◌≡◌, ◌+◌, ◌≤◌, length};
 ghost use Rattle.account.specs.Statement.{part};
 ghost use Rattle.flat.specs.Flat.{start_of, feed_of};
@@ -17,7 +19,7 @@ mod pieces;
 mod said;
 
 // What one piece did.
-#[derive(Drop)]
+#[derive(Clone, Copy)]
 struct Taken {
     answer: Answer,
     state: FlatWalker,
@@ -25,7 +27,7 @@ struct Taken {
 }
 
 // What a walk came to.
-#[derive(Drop)]
+#[derive(Clone, Copy)]
 struct Walked {
     ending: Ended,
     tally: Tally,

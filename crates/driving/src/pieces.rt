@@ -7,7 +7,7 @@ use octets::least;
 use streaming::Asked;
 
 // The next piece, if the walk can be given one.
-#[derive(Drop)]
+#[derive(Clone, Copy)]
 pub enum Next {
     Piece { offset: u64, len: u64 },
     Over,

@@ -8,7 +8,7 @@ use streaming::{Answer, Ended, Step};
 use tally::Tally;
 
 // A line, if there is one to say.
-#[derive(Drop)]
+#[derive(Clone, Copy)]
 pub struct Saying {
     pub said: bool,
     pub line: Line,

@@ -1,4 +1,6 @@
 // Stage Entry: an entry of the object map is asked for byte by byte, and what a byte of it does.
+#![tactic(auto)]
+
 ghost use Rattle.std.specs.Prelude.{true, ◌≡◌, ◌/◌, ◌%◌, ltb, eqb};
 ghost use Rattle.entry.specs.Entry.{request_entry, bits_of, at_last, moved_by, moved_to};
 ghost use Rattle.entry.specs.Entry.{refused_entry, settle_location, settle_handle, more_groups, settle_group, feed_entry};
@@ -10,7 +12,7 @@ use streaming::{Answer, Fault, Fed, FlatWalker, MapCursor, Request, Step, fell};
 const FARTHEST: u64 = i64::MAX as u64;
 
 // Where a location delta leads.
-#[derive(Drop)]
+#[derive(Clone, Copy)]
 pub enum Moved {
     To(u64),
     Nowhere,

@@ -14,7 +14,7 @@ ghost use Rattle.flat.specs.Offer.{offer_of, Fits, fed_if, fed_at};
 use streaming::{Answer, Fed, FlatWalker, Request, Stage, StreamError};
 
 // Whether a piece is taken, by its place and its length.
-#[derive(Drop)]
+#[derive(Clone, Copy)]
 pub enum Offer {
     Taken,
     Refused(StreamError),

@@ -1,4 +1,6 @@
 // The walk by calls, `FlatWalker` of src/streaming/flat.rs: the state goes in by value and comes back in the answer. No call requires anything.
+#![tactic(auto)]
+
 ghost use Rattle.std.specs.Prelude.{◌≡◌, true, length, ◌≤◌};
 ghost use Rattle.streaming.specs.Choose.{if◌then◌else◌};
 ghost use Rattle.streaming.specs.State.{refused_by};

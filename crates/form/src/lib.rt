@@ -1,4 +1,6 @@
 // The driver's input form, checked whole and then read: locators, magic, cuts, source, each behind its count (document 01, "Driver").
+#![tactic(auto)]
+
 ghost use Rattle.std.specs.Prelude.{◌≡◌, ◌+◌, ◌*◌, ◌<◌, ◌≤◌, length, take, drop, replicate};
 ghost use Rattle.std.proofs.lemmas.List.Edits.{sets};
 ghost use Rattle.streaming.specs.Choose.{if◌then◌else◌};
@@ -8,14 +10,14 @@ use octets::{copy_in, number_at};
 use streaming::{FlatHeader, Locator};
 
 // The sizes at which demands are cut: the first `count` of them.
-#[derive(Drop)]
+#[derive(Clone, Copy)]
 pub struct Cuts {
     pub count: usize,
     pub sizes: [u16; 64],
 }
 
 // What an input says, if it is in the form: the header, the cuts, and the place at which the source's bytes begin.
-#[derive(Drop)]
+#[derive(Clone, Copy)]
 pub struct Form {
     pub good: bool,
     pub header: FlatHeader,

@@ -1,4 +1,6 @@
 // What is read from the verified file header: its locators, where it ends, its release, and whether Start takes it.
+#![tactic(auto)]
+
 ghost use Rattle.std.specs.Prelude.{◌≡◌, ◌<◌, ◌^◌};
 ghost use Rattle.rules.specs.Header.{locator_of, map_start, map_end, header_end, is_r2000, is_outside, start_refusal};
 ghost use Rattle.header.specs.Start.{start_answer};

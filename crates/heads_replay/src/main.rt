@@ -1,5 +1,7 @@
 // Answers heads of records, so that the answers can be compared with the Rust's (oracle/README.md has the form `heads`).
 // An operation is a format (0 R14, 1 R2000), a length up to 16 and that many bytes; its answer `type handle`, or `-` for none.
+#![tactic(auto)]
+
 ghost use Rattle.std.specs.Prelude.{◌≤◌, length};
 
 fn wide(b: u8) -> usize {

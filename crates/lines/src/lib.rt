@@ -1,4 +1,6 @@
 // Lines of output: a letter and numbers, decimal, each after one space, and a newline at the end.
+#![tactic(auto)]
+
 mod records;
 mod refusals;
 
@@ -10,7 +12,7 @@ pub use records::{object, section};
 pub use refusals::{number, refusal};
 
 // What a line says: its letter, and the first `count` of the numbers.
-#[derive(Drop)]
+#[derive(Clone, Copy)]
 pub struct Line {
     pub letter: u8,
     pub count: usize,

@@ -1,4 +1,6 @@
 // The one-shot walk into a list of the function's own, which is handed back by value.
+#![tactic(auto)]
+
 ghost use Rattle.std.specs.Prelude.{◌≡◌, ◌+◌, min, drop};
 ghost use Rattle.survey.specs.Survey.{survey_of};
 ghost use Rattle.oneshot.specs.OneShot.{with_room};
@@ -9,7 +11,7 @@ use streaming::{FlatHeader, ObjectRecord};
 use survey::Walked;
 
 // What the walk answered, and the list behind it.
-#[derive(Drop)]
+#[derive(Clone, Copy)]
 pub struct Listed {
     pub walked: Walked,
     pub list: [ObjectRecord; 4096],

@@ -1,4 +1,6 @@
 // Stage Object: an object of the drawing is entered, asked for and fed: its size words, its data and its checksum.
+#![tactic(auto)]
+
 ghost use Rattle.std.specs.Prelude.{◌≡◌, ◌+◌, ◌-◌, ◌%◌, ◌<◌, ◌≤◌, ◌^◌, length, take};
 ghost use Rattle.std.proofs.lemmas.List.Edits.{sets};
 ghost use Rattle.rules.specs.Object.{may_start};

@@ -15,7 +15,7 @@ use streaming::{
 };
 
 // What a whole object turns out to be.
-#[derive(Drop)]
+#[derive(Clone, Copy)]
 pub enum Judged {
     Holds(ObjectRecord),
     Fails(Fault),

@@ -1,4 +1,6 @@
 // Bytes: the numbers that they make, lowest byte first or highest byte first; whether two slices are the same; copies into a slice; and the lesser of two numbers.
+#![tactic(auto)]
+
 ghost use Rattle.std.specs.Prelude.{◌≡◌, [], ◌∷◌, ◌+◌, ◌≤◌, ◌<◌, ◌^◌, min, length, take, drop};
 ghost use Rattle.std.proofs.lemmas.List.Edits.{sets};
 ghost use Rattle.octets.specs.Octets.{little_endian, big_endian, counted_size};

@@ -1,4 +1,6 @@
 // The one-shot walk on an input in the driver's form, with lists of several lengths. What the list holds behind its records is looked at too.
+#![tactic(auto)]
+
 ghost use Rattle.std.specs.Prelude.{◌≤◌};
 
 use lines::Line;

@@ -1,4 +1,6 @@
 // The one-shot walk: the whole source in hand, one call, and the object records in a list that the caller lends.
+#![tactic(auto)]
+
 ghost use Rattle.std.specs.Prelude.{◌≡◌, length};
 ghost use Rattle.survey.specs.Survey.{survey_of};
 ghost use Rattle.oneshot.specs.Cursor.{first_cursor};

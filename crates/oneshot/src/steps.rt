@@ -8,7 +8,7 @@ use survey::entries::{EntryRead, entry_at};
 use survey::sums::be16_at;
 
 // Where the filling stands in the map: the place of the next chunk, the entries that are left of the one in hand, and what the last entry led to.
-#[derive(Drop)]
+#[derive(Clone, Copy)]
 pub struct Cursor {
     pub r2000: bool,
     pub chunk: usize,
@@ -19,7 +19,7 @@ pub struct Cursor {
 }
 
 // One step: a record, and where the next step stands.
-#[derive(Drop)]
+#[derive(Clone, Copy)]
 pub struct Visit {
     pub object: ObjectRecord,
     pub next: Cursor,

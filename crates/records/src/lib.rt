@@ -1,4 +1,6 @@
 // What an object's data begins with (the Rust's `prologue` in src/streaming/records.rs), read bit by bit by shifts and masks.
+#![tactic(auto)]
+
 ghost use Rattle.std.specs.Prelude.{◌≡◌, ◌+◌, ◌*◌, ◌/◌, ◌^◌, ◌<◌, length};
 ghost use Rattle.rules.specs.Prologue.{bit_at, prologue_of};
 ghost use Rattle.records.specs.Bits.{taken_at, number, further};
@@ -7,7 +9,7 @@ ghost use Rattle.records.specs.Fields.{type_width, type_of, gap_width, head_with
 ghost use Rattle.records.specs.Answer.{of_r2000, head_of};
 
 // How the data begins, by release.
-#[derive(Drop)]
+#[derive(Clone, Copy)]
 pub enum RecordFormat {
     // R13 and R14: the type, then the handle.
     R14,
@@ -16,28 +18,28 @@ pub enum RecordFormat {
 }
 
 // What an object's data begins with.
-#[derive(Drop)]
+#[derive(Clone, Copy)]
 pub struct Opening {
     pub type_code: u16,
     pub handle: u64,
 }
 
 // The answer to `prologue`: none where the bits run out, or where the handle is said to be longer than eight bytes.
-#[derive(Drop)]
+#[derive(Clone, Copy)]
 pub enum Head {
     Nothing,
     Read(Opening),
 }
 
 // The answer to `take`: the number that the bits make, or none where they run out.
-#[derive(Drop)]
+#[derive(Clone, Copy)]
 pub enum Taken {
     Nothing,
     Bits(u64),
 }
 
 // A reader of bits: the bytes that it was lent, and the place of the bit that comes next.
-#[derive(Drop)]
+#[derive(Clone, Copy)]
 pub struct BitReader<'a> {
     pub bytes: &'a [u8],
     pub at: usize,

@@ -12,13 +12,13 @@ use octets::number_at;
 use streaming::{Fed, FlatWalker, Start};
 
 // The walk that is in hand, if there is one.
-#[derive(Drop)]
+#[derive(Clone, Copy)]
 pub struct Hand {
     pub held: bool,
     pub state: FlatWalker,
 }
 
-#[derive(Drop)]
+#[derive(Clone, Copy)]
 pub struct Answered {
     pub line: Line,
     pub hand: Hand,

@@ -1,4 +1,6 @@
 // Answers calls of the walk, one after another, so that every answer can be compared with the Rust's (oracle/README.md has the form `replay`).
+#![tactic(auto)]
+
 mod answer;
 mod form;
 mod parse;

@@ -1,4 +1,6 @@
 // Stages Vars and Classes: what is asked for in a section, what a piece of it does, and which states a walk can reach.
+#![tactic(auto)]
+
 ghost use Rattle.std.specs.Prelude.{◌≡◌, true, ◌≤◌, length};
 ghost use Rattle.section.specs.Section.{section_end, request_section, enter_section, feed_section};
 ghost use Rattle.section.specs.Fit.{section_done, fit_section, FitSection};

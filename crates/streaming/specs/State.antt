@@ -8,7 +8,6 @@ use Rattle.streaming.specs.declared.StreamError.TheVariants as error
 use Rattle.streaming.specs.declared.Answer.TheVariants as answer
 use Rattle.streaming.specs.declared.Stage.{Stage}
 use Rattle.streaming.specs.declared.MapCursor.{MapCursor}
-use Rattle.streaming.specs.declared.Failure.{Failure}
 use Rattle.streaming.specs.declared.Failure.TheVariants as failure
 use Rattle.streaming.specs.declared.FlatWalker.{FlatWalker}
 use Rattle.streaming.specs.declared.Fed.{Fed}

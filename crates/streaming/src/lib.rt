@@ -1,11 +1,13 @@
 // The types of the walk, with the Rust's names where a thing is the Rust's (src/streaming/mod.rs and flat.rs).
+#![tactic(auto)]
+
 ghost use Rattle.std.specs.Prelude.{◌≡◌};
 ghost use Rattle.streaming.specs.Numbers.{part_number};
 ghost use Rattle.streaming.specs.State.{in_unit, with_object, goes_on};
 ghost use Rattle.streaming.specs.State.{failing, stepped, fell};
 
 // A section locator.
-#[derive(Drop)]
+#[derive(Clone, Copy)]
 pub struct Locator {
     pub number: u8,
     pub offset: u32,
@@ -13,7 +15,7 @@ pub struct Locator {
 }
 
 // The verified file header that a walk starts from. Only the counted locators have a say.
-#[derive(Drop)]
+#[derive(Clone, Copy)]
 pub struct FlatHeader {
     pub magic: [u8; 6],
     pub count: u8,
@@ -22,14 +24,14 @@ pub struct FlatHeader {
 }
 
 // The next exact byte demand.
-#[derive(Drop)]
+#[derive(Clone, Copy)]
 pub struct Request {
     pub offset: u64,
     pub len: u64,
 }
 
 // Owner of payload bytes.
-#[derive(Drop)]
+#[derive(Clone, Copy)]
 pub enum Part {
     HeaderVars,
     Classes,
@@ -48,7 +50,7 @@ pub fn part_number(part: Part) -> u8
 }
 
 // A committed section: its data passed size, checksum and sentinels.
-#[derive(Drop)]
+#[derive(Clone, Copy)]
 pub struct SectionRecord {
     pub part: Part,
     pub data_offset: u64,
@@ -56,7 +58,7 @@ pub struct SectionRecord {
 }
 
 // A committed object: checksum, prologue and map handle all agree.
-#[derive(Drop)]
+#[derive(Clone, Copy)]
 pub struct ObjectRecord {
     pub handle: u64,
     pub offset: u64,
@@ -65,7 +67,7 @@ pub struct ObjectRecord {
 }
 
 // What the bytes of one accepted piece were.
-#[derive(Drop)]
+#[derive(Clone, Copy)]
 pub enum Step {
     Framing,
     Payload(Part),
@@ -75,7 +77,7 @@ pub enum Step {
 }
 
 // A fault of the drawing. It is terminal: every later call answers it again.
-#[derive(Drop)]
+#[derive(Clone, Copy)]
 pub enum Fault {
     SectionSize(u8),
     SectionSentinel(u8),
@@ -109,7 +111,7 @@ pub enum Fault {
 }
 
 // Everything that a call may be refused with. Only a fault changes the state.
-#[derive(Drop)]
+#[derive(Clone, Copy)]
 pub enum StreamError {
     LocatorCount(u8),
     LocatorRange(u8),
@@ -123,7 +125,7 @@ pub enum StreamError {
 }
 
 // The answer to `request`: a demand, nothing more, or a refusal.
-#[derive(Drop)]
+#[derive(Clone, Copy)]
 pub enum Asked {
     Demand(Request),
     Nothing,
@@ -131,21 +133,21 @@ pub enum Asked {
 }
 
 // The answer to `feed`: what the piece was, or why it was refused.
-#[derive(Drop)]
+#[derive(Clone, Copy)]
 pub enum Answer {
     Step(Step),
     Refused(StreamError),
 }
 
 // The answer to `end_of_input`: the walk is whole, or what it still wants or was refused for.
-#[derive(Drop)]
+#[derive(Clone, Copy)]
 pub enum Ended {
     Whole,
     Refused(StreamError),
 }
 
 // Where the walk stands.
-#[derive(Drop)]
+#[derive(Clone, Copy)]
 pub enum Stage {
     Vars,
     Classes,
@@ -156,7 +158,7 @@ pub enum Stage {
 }
 
 // The object map's position, kept while objects are visited.
-#[derive(Drop)]
+#[derive(Clone, Copy)]
 pub struct MapCursor {
     pub chunk: u64,
     pub len: u32,
@@ -169,14 +171,14 @@ pub struct MapCursor {
 }
 
 // The fault that is held, if any.
-#[derive(Drop)]
+#[derive(Clone, Copy)]
 pub enum Failure {
     None,
     Held(Fault),
 }
 
 // The state of a walk. It goes into a call by value and comes back in the call's answer.
-#[derive(Drop)]
+#[derive(Clone, Copy)]
 pub struct FlatWalker {
     pub header: FlatHeader,
     pub stage: Stage,
@@ -193,21 +195,21 @@ pub struct FlatWalker {
 }
 
 // The answer to `start`: a walk has begun, or the header is refused.
-#[derive(Drop)]
+#[derive(Clone, Copy)]
 pub enum Start {
     Begun,
     Refused(StreamError),
 }
 
 // What `start` gives back. Where the header is refused there is no walk: the state is not to be used.
-#[derive(Drop)]
+#[derive(Clone, Copy)]
 pub struct Started {
     pub answer: Start,
     pub state: FlatWalker,
 }
 
 // What `feed` gives back: the answer, and the state to go on with. A refused offset or length gives the state back as it was.
-#[derive(Drop)]
+#[derive(Clone, Copy)]
 pub struct Fed {
     pub answer: Answer,
     pub state: FlatWalker,

@@ -11,7 +11,7 @@ use crate::sums::{be16_at, sum_at};
 use streaming::{Asked, Fault, FlatHeader, StreamError};
 
 // What a chunk turns out to be: entries, up to its size, or the end of the walk.
-#[derive(Drop)]
+#[derive(Clone, Copy)]
 pub enum ChunkRead {
     Entries(usize),
     Ends(Asked),

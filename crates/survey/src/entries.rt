@@ -8,7 +8,7 @@ ghost use Rattle.survey.specs.Entries.{entry_read, groups_read, moved_to, groups
 const FARTHEST: u64 = i64::MAX as u64;
 
 // An entry of so many bytes leads to a handle and a location, or is refused at its last byte.
-#[derive(Drop)]
+#[derive(Clone, Copy)]
 pub enum EntryRead {
     Leads {
         bytes: usize,
@@ -19,14 +19,14 @@ pub enum EntryRead {
 }
 
 // The bytes of a delta, if it is whole.
-#[derive(Drop)]
+#[derive(Clone, Copy)]
 pub enum Groups {
     Whole(usize),
     Unending,
 }
 
 // Where a location delta leads.
-#[derive(Drop)]
+#[derive(Clone, Copy)]
 pub enum Moved {
     To(u64),
     Nowhere,

@@ -1,4 +1,6 @@
 // The whole source in hand: what the walk over it comes to, with nothing asked for and nothing lent.
+#![tactic(auto)]
+
 ghost use Rattle.std.proofs.Math.Option.{none};
 ghost use Rattle.std.specs.Prelude.{◌≡◌, length};
 ghost use Rattle.crc.specs.Rows.{Table};
@@ -22,14 +24,14 @@ pub mod sums;
 mod walk;
 
 // The section's record, if the walk came so far.
-#[derive(Drop)]
+#[derive(Clone, Copy)]
 pub enum SectionFound {
     None,
     Record(SectionRecord),
 }
 
 // What the walk over a whole source comes to: its sections, the number of its objects, and its ending.
-#[derive(Drop)]
+#[derive(Clone, Copy)]
 pub struct Walked {
     pub vars: SectionFound,
     pub classes: SectionFound,

@@ -13,7 +13,7 @@ use object::words::may_end;
 use streaming::{Asked, Fault, FlatHeader, ObjectRecord, Request};
 
 // What an object turns out to be: its record, or the end of the walk.
-#[derive(Drop)]
+#[derive(Clone, Copy)]
 pub enum ObjectRead {
     Holds(ObjectRecord),
     Ends(Asked),

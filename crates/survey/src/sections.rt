@@ -12,7 +12,7 @@ use crate::sums::{le16_at, sum_at};
 use streaming::{Fault, Part, SectionRecord, part_number};
 
 // What a section turns out to be.
-#[derive(Drop)]
+#[derive(Clone, Copy)]
 pub enum SectionRead {
     Holds(SectionRecord),
     Fails(Fault),

@@ -12,7 +12,7 @@ use flat::ended_by;
 use streaming::{Asked, Ended, Fault, FlatHeader};
 
 // Where the walk stands in a chunk: its next byte, and the handle and the location so far.
-#[derive(Drop)]
+#[derive(Clone, Copy)]
 pub struct Cursor {
     pub at: usize,
     pub handle: u64,
@@ -20,14 +20,14 @@ pub struct Cursor {
 }
 
 // What an entry and its object come to: the walk goes on behind them, or ends.
-#[derive(Drop)]
+#[derive(Clone, Copy)]
 pub enum Visit {
     Goes(Cursor),
     Ends(Asked),
 }
 
 // What the walk of the map comes to: the number of its objects, and its ending.
-#[derive(Drop)]
+#[derive(Clone, Copy)]
 pub struct Counted {
     pub count: usize,
     pub ending: Ended,

@@ -1,4 +1,6 @@
 // What a walk took, counted call by call from the answer and the piece's length: bytes, framing, payload, objects and repeats.
+#![tactic(auto)]
+
 ghost use Rattle.std.specs.Prelude.{◌+◌, ◌≡◌, [], ◌∷◌, ◌++◌};
 ghost use Rattle.streaming.specs.Record.{committed_by};
 ghost use Rattle.tally.specs.History.{heard, as_framing, as_payload, step_takes, fault_takes, refusal_takes, handles_of, repeats};
@@ -7,14 +9,14 @@ ghost use Rattle.tally.specs.Tally.{capped, tally_of, known, behind, counted, Co
 use streaming::{Answer, Failure, Step, StreamError};
 
 // The object just before, by its handle.
-#[derive(Drop)]
+#[derive(Clone, Copy)]
 pub enum Last {
     None,
     Handle(u64),
 }
 
 // The counts of a walk so far. Each stops at the top of its type and never wraps.
-#[derive(Drop)]
+#[derive(Clone, Copy)]
 pub struct Tally {
     pub bytes: u64,
     pub framing: u64,

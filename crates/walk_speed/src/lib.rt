@@ -1,4 +1,6 @@
 // What the speed command times: one walk over a source in hand, by calls, in pieces of a given length, or in one call.
+#![tactic(auto)]
+
 ghost use Rattle.std.specs.Prelude.{◌≡◌, ◌<◌, ◌^◌, ◌≤◌, min, length};
 ghost use Rattle.account.specs.Statement.{part};
 ghost use Rattle.flat.specs.Flat.{start_of, feed_of};
