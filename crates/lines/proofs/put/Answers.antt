@@ -10,6 +10,7 @@ use borrow.Author.Rules.{rules}
 use Rattle.lines.specs.Line.{spaced}
 use Rattle.lines.proofs.Laws.{line_next, line_end, all_taken}
 use Rattle.lines.proofs.put.Goals as goal
+use Rattle.lines.proofs.put.Goals.{else-loop-i-test, then-loop-i-test+then-count-i}
 
 pub loop-i-init : goal.loop-i-init
 loop-i-init c = (omega arith, omega arith, omega arith, omega arith, refl, simp length-set c.requires, sym (append-nil _))
@@ -37,8 +38,8 @@ returns c =
     let s : length c.loop-i.out ≡ length c.args.out.now = simp length-set at c.loop-i.invariant.4 in
     let k : c.loop-i.at + 1 ≤ length (set c.loop-i.out c.loop-i.at 10) = simp length-set (omega (arith, c.requires)) in
     let t : take c.loop-i.i c.args.line.numbers ≡ take c.args.line.count c.args.line.numbers = all_taken c.args.line.numbers c.loop-i.i c.args.line.count c.loop-i.invariant.1
-    (⊎_elim (λ w. inl (omega arith)) (λ w. inr (omega arith)) c.loop-i-test.branch) in (
-      (k, sym (length-take-le _ _ k)),
-      line_end c.args.line.numbers c.args.out.now c.loop-i.out c.args.line.letter c.loop-i.at c.loop-i.i c.args.line.count
-          (omega (arith, c.requires)) (omega (arith, c.requires)) t c.loop-i.invariant.6,
-    )
+    (elim c.loop-i-test.branch [ else-loop-i-test w ↦ inl (omega arith) | then-loop-i-test+then-count-i w ↦ inr (omega arith) ]) in record {
+      within = (k, sym (length-take-le _ _ k));
+      text = line_end c.args.line.numbers c.args.out.now c.loop-i.out c.args.line.letter c.loop-i.at c.loop-i.i c.args.line.count
+          (omega (arith, c.requires)) (omega (arith, c.requires)) t c.loop-i.invariant.6;
+    }

@@ -18,8 +18,8 @@ shape_of-out c = simp length-set at c.copy_in.auto.dst
 
 pub returns : goal.returns
 returns c =
-    let m = at_most_twenty c.args.n c.decimal-k.result (omega arith) c.decimal-k.ensures.len in (
-      put_law c.args.out.now c.args.at c.args.n c.decimal-k.result c.decimal-k.new.out c.copy_in.new.dst c.requires (omega arith)
-          c.decimal-k.ensures.in_bounds.1 c.decimal-k.ensures.len c.decimal-k.ensures.digits c.copy_in.ensures,
-      (omega arith, omega (arith, m)),
-    )
+    let m = at_most_twenty c.args.n c.decimal-k.result (omega arith) c.decimal-k.ensures.len in record {
+      text = put_law c.args.out.now c.args.at c.args.n c.decimal-k.result c.decimal-k.new.out c.copy_in.new.dst c.requires (omega arith)
+          c.decimal-k.ensures.in_bounds.1 c.decimal-k.ensures.len c.decimal-k.ensures.digits c.copy_in.ensures;
+      place = (omega arith, omega (arith, m));
+    }
