@@ -24,12 +24,12 @@ differ_assoc (suc zero) (suc zero) (suc (suc z)) hx hy hz = two hz
 differ_assoc (suc zero) (suc (suc y)) z hx hy hz = two hy
 differ_assoc (suc (suc x)) y z hx hy hz = two hx
 
-bit_xor : (x y : ℕ) → x < 2 → y < 2 → bit_xor x y ≡ differ x y
-bit_xor zero y hx hy = refl
-bit_xor (suc zero) zero hx hy = refl
-bit_xor (suc zero) (suc zero) hx hy = refl
-bit_xor (suc zero) (suc (suc y)) hx hy = two hy
-bit_xor (suc (suc x)) y hx hy = two hx
+xor_of_bits : (x y : ℕ) → x < 2 → y < 2 → bit_xor x y ≡ differ x y
+xor_of_bits zero y hx hy = refl
+xor_of_bits (suc zero) zero hx hy = refl
+xor_of_bits (suc zero) (suc zero) hx hy = refl
+xor_of_bits (suc zero) (suc (suc y)) hx hy = two hy
+xor_of_bits (suc (suc x)) y hx hy = two hx
 
 bit : (a : ℕ) → a % 2 < 2
 bit a = omega arith
@@ -38,7 +38,7 @@ xor_half : (a b : ℕ) → bit_xor a b / 2 ≡ bit_xor (a / 2) (b / 2)
 xor_half a b = xor_shr a b 1
 
 xor_bit : (a b : ℕ) → bit_xor a b % 2 ≡ differ (a % 2) (b % 2)
-xor_bit a b = xor_mod a b 1 ∙ bit_xor (a % 2) (b % 2) (bit a) (bit b)
+xor_bit a b = xor_mod a b 1 ∙ xor_of_bits (a % 2) (b % 2) (bit a) (bit b)
 
 pub xor_assoc : (a b c : ℕ) → bit_xor (bit_xor a b) c ≡ bit_xor a (bit_xor b c)
 xor_assoc =

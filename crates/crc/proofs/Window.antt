@@ -1,7 +1,7 @@
 -- A list of known length is the list of its elements: so a group of eight bytes is the xor of what was looked up for them.
-use mathlib.Core.Path.{◌≡◌, refl, sym, ap, ◌∙◌}
+use mathlib.Core.Path.{◌≡◌, sym, ap, ◌∙◌}
 use mathlib.Core.List.{List, [], ◌∷◌}
-use Prim.Native.Nat.{ℕ, zero, suc, ◌+◌, ◌/◌, ◌%◌, ◌<◌}
+use Prim.Native.Nat.{ℕ, zero, suc, ◌+◌, ◌/◌, ◌%◌}
 use native.Mathlib.Omega.{arith}
 use lib.Bits.{bit_xor, xor_zero_r}
 use lib.ListN.{length, get_or, drop, drop_of_length-le}
