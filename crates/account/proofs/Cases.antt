@@ -19,7 +19,7 @@ use Rattle.account.specs.Statement.{Call, answer_of, after, ended_by, Walker, Ho
 use Rattle.account.specs.Runs.{bytes, committed, Whole}
 use Rattle.account.proofs.Carried.{instead}
 use Rattle.account.proofs.Main.{whole_run}
-use Rattle.account.proofs.Instance.{State, giving, Of, rules, found, tidy, request_of, walker, meets}
+use Rattle.account.proofs.Instance.{giving, Of, rules, found, tidy, request_of, walker, meets}
 
 -- ---- runs, with the limit 10 and the bytes 7, 8, 5
 

@@ -1,5 +1,5 @@
 -- Laws of an account's fronts: what its first n bytes commit, what is left behind them, and what the n-th says.
-use Prim.Native.Nat.{ℕ, zero, suc, ◌+◌, ◌-◌, ◌≤◌, ◌<◌}
+use Prim.Native.Nat.{ℕ, zero, suc, ◌+◌, ◌≤◌, ◌<◌}
 use mathlib.Core.List.{List, [], ◌++◌, append_assoc, append-nil}
 use mathlib.Core.Path.{◌≡◌, refl, sym}
 use native.Mathlib.Omega.{arith}
@@ -76,7 +76,7 @@ end_commits (asked.Demand r) = refl
 end_commits asked.Nothing = refl
 end_commits (asked.Refused e) = refl
 
-pub last_commits : (n : ℕ) {src : List ℕ} {a : Account} → Tidy src a → (at left : ℕ) → ask_of a ≡ demand at left → suc n ≤ left
+pub last_commits : {src : List ℕ} (n : ℕ) {a : Account} → Tidy src a → (at left : ℕ) → ask_of a ≡ demand at left → suc n ≤ left
     → committed_in (says_at (suc n) a) ≡ records_within (suc n) a
 unfolding records_within
 last_commits n (tidy_over {q = q} p) at left e h = end_commits q

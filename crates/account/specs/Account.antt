@@ -1,7 +1,6 @@
 -- The account of a walk over a whole source: what is asked for and what is said, byte by byte. Cuts and calls have no place in it.
-use Rattle.std.specs.Prelude.{ℕ, zero, suc, ◌+◌, List, [], ◌∷◌, ◌++◌}
+use Rattle.std.specs.Prelude.{ℕ, zero, suc, ◌+◌, List, [], ◌++◌}
 use Rattle.streaming.specs.Record.{Record, committed_in}
-use Rattle.streaming.specs.declared.Request.{Request}
 use Rattle.streaming.specs.declared.Part.{Part}
 use Rattle.streaming.specs.declared.Step.{Step}
 use Rattle.streaming.specs.declared.Step.TheVariants as step

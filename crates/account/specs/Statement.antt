@@ -1,7 +1,6 @@
 -- The statement: what it is for any walker to follow the rules of a format, over every list of calls. Nothing here knows the format.
 use Rattle.std.specs.Prelude.{ℕ, Bool, true, false, ◌&&◌, List, [], ◌∷◌, ◌≡◌, length, take, drop, ltb, leb, eqb}
 use Rattle.streaming.specs.Choose.{if◌then◌else◌}
-use Rattle.streaming.specs.declared.Request.{Request}
 use Rattle.streaming.specs.declared.StreamError.{StreamError}
 use Rattle.streaming.specs.declared.StreamError.TheVariants as error
 use Rattle.streaming.specs.declared.Asked.{Asked}

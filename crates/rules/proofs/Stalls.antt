@@ -5,7 +5,7 @@ use mathlib.Core.List.{List}
 use mathlib.Core.Path.{◌≡◌, sym, ap, ◌∙◌}
 use native.Mathlib.Omega.{arith}
 use lib.ListN.{length}
-use borrow.Author.Tests.{ltb-true, not_true}
+use borrow.Author.Tests.{ltb-true, not-true}
 use Rattle.streaming.specs.declared.FlatHeader.{FlatHeader}
 use Rattle.streaming.specs.declared.Fault.{Fault}
 use Rattle.streaming.specs.declared.Asked.TheVariants as asked
@@ -40,7 +40,7 @@ module _ (h : FlatHeader) (src : List ℕ) (of : Of h src) where
       record {
         location = location;
         entered = s;
-        goes_on = not_true (is_last (first_word src location)) (and_left _ _ f);
+        goes_on = not-true (is_last (first_word src location)) (and_left _ _ f);
         at_end = omega (arith, of.whole, d.0);
         word_end = omega (arith, d.0, d.1);
       }
