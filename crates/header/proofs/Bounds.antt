@@ -2,13 +2,13 @@
 -- For `search (needs, map_end_below)`, which finds the header among what a need is handed.
 use Prim.Native.Nat.{ℕ, zero, suc, ◌<◌, ◌^◌, ◌+◌}
 use native.Mathlib.Omega.{arith}
-use mathlib.Core.List.{List, [], ◌∷◌, map}
+use mathlib.Core.List.{List, [], ◌∷◌}
 use lib.ListN.{take}
 use lib.Dec.{eqb}
 use mir.Val.{Val}
 use denote.Array.{each}
 use denote.Shadow.{shadow}
-use Rattle.streaming.specs.contracts.Locator.{the_field}
+use Rattle.streaming.specs.contracts.Locator.{the_row}
 use Rattle.streaming.specs.Choose.{if◌then◌else◌}
 use Rattle.streaming.proofs.Choose.{in_both}
 use Rattle.streaming.specs.declared.Locator.{Locator}
@@ -21,7 +21,7 @@ record Small (l : Locator) : Type 0 where
 
 -- what owning the locators tells of them
 abbrev Owned : List Locator → List Val → Type 0
-Owned ls us = shadow (each the_field.row.Denot the_field.row.own_val (map the_field.into ls) us)
+Owned ls us = shadow (each the_row.Denot the_row.own_val ls us)
 
 first_small : (ls : List Locator) (us : List Val) (k n : ℕ) → Owned ls us → Small (first_of n (take k ls))
 unfolding first_of

@@ -72,8 +72,8 @@ pub fn with_four(letter: u8, a: u64, b: u64, c: u64, d: u64) -> Line
 // A space and a number, put at a place. Answers the place behind them.
 fn put_number(out: &mut [u8], at: usize, n: u64) -> usize
     requires { at + 21 ≤ length out.old }
-    ensures out_after { take result out.new ≡ take at out.old ++ 32 ∷ decimal_of n }
-    ensures lower_bound { (at ≤ result) × (result ≤ at + 21) }
+    ensures text { take result out.new ≡ take at out.old ++ 32 ∷ decimal_of n }
+    ensures place { (at ≤ result) × (result ≤ at + 21) }
 {
     let mut text = [0u8; 20];
     let k = io::decimal(n, &mut text);
@@ -85,8 +85,8 @@ fn put_number(out: &mut [u8], at: usize, n: u64) -> usize
 // Puts the line's text at the start of out, and answers how many bytes it has.
 pub fn put(line: Line, out: &mut [u8]) -> usize
     requires { 160 ≤ length out.old }
-    ensures prefix_len { IsPrefixLen result out.new }
-    ensures out_after { take result out.new ≡ text_of line }
+    ensures within { IsPrefixLen result out.new }
+    ensures text { take result out.new ≡ text_of line }
 {
     let numbers = line.numbers;
     let count = line.count;

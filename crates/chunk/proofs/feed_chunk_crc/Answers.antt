@@ -1,0 +1,24 @@
+-- `feed_chunk_crc` meets its contract.
+use mathlib.Core.Path.{◌≡◌}
+use native.Mathlib.Omega.{arith}
+use lib.ListN.{length}
+use borrow.Author.Tests.{eq-eqb, ne_eqb}
+use Rattle.streaming.specs.Choose.{if◌then◌else◌}
+use Rattle.chunk.specs.Chunk.{feed_chunk_crc}
+use borrow.Author.Rules.{rules}
+use Rattle.chunk.proofs.feed_chunk_crc.Goals as goal
+
+pub copy_in-requires : goal.copy_in-requires
+copy_in-requires c =
+    let four : length c.args.s.field ≡ 4 = search rules in
+    omega arith
+
+pub returns-then-done-s : goal.returns-then-done-s
+unfolding feed_chunk_crc if◌then◌else◌
+returns-then-done-s c =
+    simp (eq-eqb _ _ c.if-done-s.true)
+    (rw (c.number_in.ensures, c.copy_in.ensures) at c.settle_chunk_crc.ensures)
+
+pub returns : goal.returns
+unfolding feed_chunk_crc if◌then◌else◌
+returns c = rw (ne_eqb _ _ c.if-done-s.false) (rw c.copy_in.ensures at c.go_on.ensures)
