@@ -5,7 +5,7 @@ use mathlib.Core.Option.{Option, none, some}
 use mathlib.Core.Path.{◌≡◌, refl, ◌∙◌}
 use native.Mathlib.Omega.{arith}
 use lib.Dec.{ltb, leb, eqb}
-use borrow.Author.Tests.{ltb-true, leb-true, not_true}
+use borrow.Author.Tests.{ltb-true, leb-true, not-true}
 use Rattle.streaming.specs.State.{with_map, at_entry}
 use Rattle.streaming.specs.declared.FlatWalker.{FlatWalker}
 use Rattle.streaming.specs.declared.Fed.{Fed}
@@ -79,7 +79,7 @@ module _ (s : FlatWalker) (taken : Taken s) (own : (t : FlatWalker) → fit_at s
   unfolding settle_handle
   at_handle value =
       in_both (λ (r : Fed). Keeps r.state) (ltb (s.map.handle + value) (2 ^ 64) && not (at_last s.map))
-      (λ e. stays (s.map.handle + value) 0 0 1 (not_true _ (and_right (ltb (s.map.handle + value) (2 ^ 64)) _ e)) (omega arith) (omega arith) refl)
+      (λ e. stays (s.map.handle + value) 0 0 1 (not-true _ (and_right (ltb (s.map.handle + value) (2 ^ 64)) _ e)) (omega arith) (omega arith) refl)
       (λ e. keeps_failing s _)
 
   at_more : (value : ℕ) → s.map.shift ≤ 56 → Keeps (more_groups s value).state
