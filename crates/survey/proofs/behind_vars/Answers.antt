@@ -8,7 +8,6 @@ use Rattle.streaming.specs.declared.Part.TheVariants.{Classes}
 use Rattle.rules.specs.PlainList.{Listing, first}
 use Rattle.survey.specs.Survey.{listed}
 use Rattle.survey.proofs.Listed.{listed_vars, listed_both, part_goes}
-use borrow.Author.Rules.{rules}
 use Rattle.survey.proofs.behind_vars.Goals as goal
 
 pub section_at-requires : goal.section_at-requires

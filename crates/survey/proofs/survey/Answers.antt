@@ -3,7 +3,6 @@ use mathlib.Core.Path.{sym, ◌∙◌}
 use Rattle.rules.specs.Header.{start_refusal}
 use Rattle.survey.specs.Survey.{survey_of}
 use Rattle.survey.proofs.Listed.{begun_is, refused_is}
-use borrow.Author.Rules.{rules}
 use Rattle.survey.proofs.survey.Goals as goal
 
 pub whole-requires : goal.whole-requires

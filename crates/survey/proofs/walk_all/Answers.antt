@@ -6,16 +6,14 @@ use Rattle.rules.proofs.Header.{started}
 use Rattle.streaming.specs.declared.Part.TheVariants.{HeaderVars}
 use Rattle.survey.specs.Survey.{listed}
 use Rattle.survey.proofs.Listed.{listed_none, part_goes}
-use borrow.Author.Rules.{rules}
 use Rattle.survey.proofs.walk_all.Goals as goal
 
 pub section_at-requires : goal.section_at-requires
-section_at-requires c =
-    (
-      c.table-rows.ensures,
-      omega arith,
-      rw c.locator-l.ensures (omega (arith, (started c.args.h c.requires.starts).vars, c.requires.whole)),
-    )
+section_at-requires c = (
+  c.table-rows.ensures,
+  omega arith,
+  rw c.locator-l.ensures (omega (arith, (started c.args.h c.requires.starts).vars, c.requires.whole)),
+)
 
 pub returns-in-Fails : goal.returns-in-Fails
 unfolding plain_list

@@ -3,7 +3,6 @@ use mathlib.Core.Path.{◌∙◌}
 use borrow.Author.Tests.{lt-ltb, le-ltb}
 use Rattle.streaming.specs.Choose.{if◌then◌else◌}
 use Rattle.survey.specs.Survey.{length_refusal}
-use borrow.Author.Rules.{rules}
 use Rattle.survey.proofs.whole.Goals as goal
 
 pub returns-then-h-n : goal.returns-then-h-n

@@ -8,7 +8,6 @@ use Rattle.rules.specs.Map.{chunk_size, chunk_computed, chunk_stored, chunk_fits
 use Rattle.rules.specs.PlainList.{stop}
 use Rattle.rules.proofs.Map.{fits_low, fits_end}
 use Rattle.survey.proofs.InMap.{past_end, unfit, other_sum, with_entries, ends-map, ends-early}
-use borrow.Author.Rules.{rules}
 use Rattle.survey.proofs.chunks.chunk_at.Goals as goal
 
 pub returns-then-end-chunk-clause-goes : goal.returns-then-end-chunk-clause-goes

@@ -2,7 +2,6 @@
 use native.Mathlib.Omega.{arith}
 use Rattle.rules.specs.Entry.{with_handle, groups_of}
 use Rattle.survey.proofs.Places.{part-behind, part_cut}
-use borrow.Author.Rules.{rules}
 use Rattle.survey.proofs.entries.entry_at.Goals as goal
 
 pub returns-then-stop-at : goal.returns-then-stop-at

@@ -1,6 +1,5 @@
 -- `entry_in` meets its contract.
-use Prim.Native.Nat.{ℕ, ◌-◌}
-use mathlib.Core.List.{List}
+use Prim.Native.Nat.{◌-◌}
 use mathlib.Core.Path.{◌≡◌, sym, ◌∙◌}
 use native.Mathlib.Omega.{arith}
 use lib.ListN.{length, take, drop, length-drop}
@@ -8,7 +7,6 @@ use lib.Seq.{length-take-le, take_all}
 use Rattle.rules.specs.Entry.{with_handle}
 use Rattle.survey.proofs.Groups.{Whole, whole_read, unending_read}
 use Rattle.survey.proofs.Moves.{handle-ends, handle_past, handle-leads}
-use borrow.Author.Rules.{rules}
 use Rattle.survey.proofs.entries.entry_in.Goals as goal
 
 pub returns-in_default : goal.returns-in_default

@@ -1,10 +1,7 @@
 -- `groups_then` meets its contract: the value is that of the groups behind.
-use Prim.Native.Nat.{◌-◌, ◌≤◌}
+use Prim.Native.Nat.{◌-◌}
 use mathlib.Core.Path.{◌≡◌, sym}
 use native.Mathlib.Omega.{arith}
-use lib.ListN.{length, drop}
-use borrow.Author.Rules.{rules}
-use Rattle.survey.specs.Entries.{groups_then}
 use Rattle.survey.proofs.Groups.{groups_room, groups_next, groups_end}
 use Rattle.survey.proofs.entries.groups_then.Goals as goal
 

@@ -1,11 +1,8 @@
 -- `groups_then` meets its contract: the value is that of the groups behind.
-use Prim.Native.Nat.{◌-◌, ◌≤◌}
-use mathlib.Core.Path.{◌≡◌, sym}
-use native.Mathlib.Omega.{arith}
+use Prim.Native.Nat.{◌≤◌}
+use mathlib.Core.Path.{◌≡◌}
 use lib.ListN.{length, drop}
-use borrow.Author.Rules.{rules}
 use Rattle.survey.specs.Entries.{groups_then}
-use Rattle.survey.proofs.Groups.{groups_room, groups_next, groups_end}
 use Rattle.survey.proofs.entries.groups_then.Given as goal
 
 abbrev pub invariant-loop-i : goal.invariant-loop-i

@@ -8,8 +8,7 @@ pub groups_then-requires : goal.groups_then-requires
 groups_then-requires c = nine_room 0 c.args.groups.now 9 c.requires (omega arith)
 
 pub returns : goal.returns
-returns c =
-    (
-      c.groups_then.ensures ∙ handle_groups c.args.groups.now,
-      omega (arith, c.groups_then.ensures, groups_below 0 c.args.groups.now, nine_room 0 c.args.groups.now 9 c.requires (omega arith)),
-    )
+returns c = (
+  c.groups_then.ensures ∙ handle_groups c.args.groups.now,
+  omega (arith, c.groups_then.ensures, groups_below 0 c.args.groups.now, nine_room 0 c.args.groups.now 9 c.requires (omega arith)),
+)

@@ -2,7 +2,6 @@
 use native.Mathlib.Omega.{arith}
 use lib.ListN.{length}
 use Prim.Native.Nat.{◌-◌}
-use borrow.Author.Rules.{rules}
 use Rattle.survey.proofs.Groups.{back_last}
 use Rattle.survey.proofs.entries.is_back.Goals as goal
 

@@ -4,7 +4,6 @@ use mathlib.Core.Path.{◌≡◌, sym, ◌∙◌}
 use native.Mathlib.Omega.{arith}
 use lib.ListN.{length, take}
 use lib.Seq.{length-take-le}
-use borrow.Author.Rules.{rules}
 use Rattle.survey.proofs.Groups.{magnitude_groups, nine_room}
 use Rattle.survey.proofs.entries.location_delta.Goals as goal
 

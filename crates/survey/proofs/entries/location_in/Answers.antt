@@ -1,6 +1,4 @@
 -- `location_in` meets its contract.
-use Prim.Native.Nat.{ℕ}
-use mathlib.Core.List.{List}
 use mathlib.Core.Path.{◌≡◌, sym, ◌∙◌}
 use native.Mathlib.Omega.{arith}
 use lib.ListN.{length, take}
@@ -8,7 +6,6 @@ use lib.Seq.{length-take-le}
 use Rattle.rules.specs.Entry.{with_location}
 use Rattle.survey.proofs.Groups.{Whole, whole_read, unending_read}
 use Rattle.survey.proofs.Moves.{location-leads, location_stays}
-use borrow.Author.Rules.{rules}
 use Rattle.survey.proofs.entries.location_in.Goals as goal
 
 pub returns-in_default : goal.returns-in_default

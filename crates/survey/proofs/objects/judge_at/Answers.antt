@@ -8,7 +8,6 @@ use Rattle.rules.specs.Header.{is_r2000}
 use Rattle.rules.specs.Object.{object_computed, object_stored}
 use Rattle.rules.specs.Prologue.{prologue_of}
 use Rattle.survey.proofs.AtLocation.{other_crc, by_prologue}
-use borrow.Author.Rules.{rules}
 use Rattle.survey.proofs.objects.judge_at.Goals as goal
 
 pub returns-then-stored-computed : goal.returns-then-stored-computed

@@ -1,13 +1,9 @@
 -- `object_at` meets its contract.
-use mathlib.Core.Bool.{true}
-use mathlib.Core.Path.{◌≡◌, sym, ap, ◌∙◌}
+use mathlib.Core.Path.{sym, ap, ◌∙◌}
 use native.Mathlib.Omega.{arith}
-use borrow.Author.Tests.{not-true, not-false}
-use Rattle.rules.specs.Object.{may_start}
 use Rattle.rules.specs.PlainList.{stop}
 use Rattle.rules.proofs.Object.{start-inside}
 use Rattle.survey.proofs.AtLocation.{no_start, one_word, stalls, endless, two_words_lem}
-use borrow.Author.Rules.{rules}
 use Rattle.survey.proofs.objects.object_at.Goals as goal
 
 pub returns-then-not-may_start : goal.returns-then-not-may_start

@@ -3,13 +3,11 @@ use Prim.Native.Nat.{◌+◌}
 use mathlib.Core.Bool.{true}
 use mathlib.Core.Path.{◌≡◌, sym, ap, ◌∙◌}
 use native.Mathlib.Omega.{arith}
-use borrow.Author.Tests.{not-true, not-false}
 use Rattle.rules.specs.Object.{may_end}
 use Rattle.rules.specs.PlainList.{stop, verdict_then}
 use Rattle.rules.proofs.Object.{end_inside}
 use Rattle.object.specs.Object.{verdict_of}
 use Rattle.survey.proofs.AtLocation.{no_size, no_end, judged}
-use borrow.Author.Rules.{rules}
 use Rattle.survey.proofs.objects.sized_at.Goals as goal
 
 pub returns-then-size-eq0 : goal.returns-then-size-eq0

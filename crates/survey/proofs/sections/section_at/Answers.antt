@@ -1,9 +1,7 @@
 -- `section_at` meets its contract.
 use mathlib.Core.Path.{sym, ◌∙◌}
-use borrow.Author.Tests.{not-true, not-false}
 use Rattle.rules.specs.Section.{section_size, section_computed, section_stored, section_record}
 use Rattle.survey.proofs.Fields.{too_short, other_start, other_size, other_sum, other_end, section-holds}
-use borrow.Author.Rules.{rules}
 use Rattle.survey.proofs.sections.section_at.Goals as goal
 
 pub returns-then-total-lt38 : goal.returns-then-total-lt38

@@ -6,7 +6,6 @@ use lib.ListN.{length}
 use Rattle.account.specs.Statement.{part}
 use Rattle.account.proofs.Parts.{length_part}
 use Rattle.survey.proofs.Fields.{whole_sentinel}
-use borrow.Author.Rules.{rules}
 use Rattle.survey.proofs.sections.sentinel_at.Goals as goal
 
 pub returns : goal.returns

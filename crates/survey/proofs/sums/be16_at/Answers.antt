@@ -1,7 +1,6 @@
 -- `be16_at` meets its contract.
 use native.Mathlib.Omega.{arith}
 use Rattle.survey.proofs.Places.{part_two}
-use borrow.Author.Rules.{rules}
 use Rattle.survey.proofs.sums.be16_at.Goals as goal
 
 pub returns : goal.returns

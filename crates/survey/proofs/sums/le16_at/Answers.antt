@@ -1,7 +1,6 @@
 -- `le16_at` meets its contract.
 use native.Mathlib.Omega.{arith}
 use Rattle.survey.proofs.Places.{part_two}
-use borrow.Author.Rules.{rules}
 use Rattle.survey.proofs.sums.le16_at.Goals as goal
 
 pub returns : goal.returns

@@ -1,6 +1,5 @@
 -- `sum_at` meets its contract.
 use native.Mathlib.Nat.{add-sub_cancel_left}
-use borrow.Author.Rules.{rules}
 use Rattle.survey.proofs.sums.sum_at.Goals as goal
 
 pub returns : goal.returns

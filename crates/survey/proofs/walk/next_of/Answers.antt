@@ -1,13 +1,12 @@
 -- `next_of` meets its contract: an entry is read, and its object is looked at.
-use Prim.Native.Nat.{◌+◌, ◌-◌, ◌<◌, ◌^◌, ◌≤◌}
+use Prim.Native.Nat.{◌-◌}
 use mathlib.Core.Path.{◌≡◌, sym, ap, ◌∙◌}
 use native.Mathlib.Omega.{arith}
 use Rattle.account.specs.Statement.{part}
-use Rattle.rules.specs.Entry.{leads, refused, entry_in}
+use Rattle.rules.specs.Entry.{leads, entry_in}
 use Rattle.rules.specs.PlainList.{stop}
 use Rattle.survey.specs.Counting.{counted}
 use Rattle.survey.proofs.Onward.{leads-told, refused-told, leads-inside, refused-inside, entry_leads, entry_refused, object-counted}
-use borrow.Author.Rules.{rules}
 use Rattle.survey.proofs.walk.next_of.Goals as goal
 
 pub overflow_add-c : goal.overflow_add-c

@@ -1,6 +1,5 @@
 -- `walk_map` meets its contract: the objects so far, and what the rest of the map gives, are what all of it gives.
-use Prim.Native.Nat.{ℕ, ◌+◌, ◌-◌, ◌^◌, ◌≤◌, ◌<◌}
-use mathlib.Core.List.{List}
+use Prim.Native.Nat.{ℕ, ◌+◌, ◌^◌, ◌<◌}
 use mathlib.Core.Path.{◌≡◌, sym, ap, ◌∙◌}
 use native.Mathlib.Omega.{arith}
 use Rattle.streaming.specs.declared.Asked.{Asked}
@@ -36,8 +35,7 @@ loop-c-init c =
     let entered : chunks_on c.args.h c.args.src.now c.map.chunk
     ≡ entries_on c.args.h c.args.src.now (c.map.chunk + c.in-Entries.size) (record { at = c.map.chunk + 2; handle = 0; location = 0 })
     (chunks_on c.args.h c.args.src.now (c.map.chunk + c.in-Entries.size + 2))
-    = chunk-entered c.args.h c.args.src.now c.map.chunk c.in-Entries.size c.in-Entries.ensures.fits c.requires.2 c.in-Entries.ensures.goes in
-    (
+    = chunk-entered c.args.h c.args.src.now c.map.chunk c.in-Entries.size c.in-Entries.ensures.fits c.requires.2 c.in-Entries.ensures.goes in (
       omega (arith, c.map.invariant.0),
       omega (arith, c.in-Entries.ensures.fits.some),
       omega arith,
@@ -59,8 +57,7 @@ loop-c-smaller c =
 
 pub loop-c-preserved : goal.loop-c-preserved
 loop-c-preserved c =
-    let ahead = c.in-Goes.ensures.ahead in
-    (
+    let ahead = c.in-Goes.ensures.ahead in (
       omega (arith, ahead.0, c.loop-c.invariant.0),
       ahead.1,
       ahead.2,
@@ -78,8 +75,7 @@ map-smaller c =
 
 pub map-preserved : goal.map-preserved
 map-preserved c =
-    let near : map_end c.args.h < 2 ^ 33 = let l = c.well_formed.0.1.1.1.1.0 in map_end_below c.args.h l.0 l.1.1 in
-    (
+    let near : map_end c.args.h < 2 ^ 33 = let l = c.well_formed.0.1.1.1.1.0 in map_end_below c.args.h l.0 l.1.1 in (
       omega (arith, c.loop-c.invariant.0, c.loop-c.invariant.1),
       omega (arith, c.in-Entries.ensures.fits.fits),
       ap (λ (k : Listing). more c.loop-c.count (counted k)) (sym (entries_end c.args.h c.args.src.now _ c.loop-c.c _ c.loop-c-test.false)) ∙ c.loop-c.invariant.3,
@@ -89,15 +85,15 @@ pub returns : goal.returns
 returns c =
     let total = sym (ap counted (chunks_begin c.args.h c.args.src.now)) in
     elim c.match-chunk_at.branch [
-      in-Ends w ↦
-        let rest = chunks_on c.args.h c.args.src.now (c.map.chunk + chunk_size c.args.src.now c.map.chunk + 2) in
-        stopped c.match-chunk_at.count c.match-chunk_at.ending _ (counted (chunks_on c.args.h c.args.src.now c.map.chunk)) _ c.ended_by.ensures
-        (ap counted (chunks_on_lem c.args.h c.args.src.now c.map.chunk ∙ w.in-Ends.ensures.goes rest ∙ ap stop (sym w.ending-is)))
-        (ap (λ (n : ℕ). more n (counted (chunks_on c.args.h c.args.src.now c.map.chunk))) w.count-is ∙ c.map.invariant.2 ∙ total)
-    | in-Entries+then-loop-c-test+in-Ends-next_of w ↦
-        let end = c.map.chunk + w.in-Entries.size in
-        let rest = chunks_on c.args.h c.args.src.now (end + 2) in
-        stopped c.match-chunk_at.count c.match-chunk_at.ending _ (counted (entries_on c.args.h c.args.src.now end w.loop-c.c rest)) _ c.ended_by.ensures
-        (w.in-Ends-next_of.ensures.goes rest ∙ ap (λ (q : Asked). counted (stop q)) (sym w.ending-is))
-        (ap (λ (n : ℕ). more n (counted (entries_on c.args.h c.args.src.now end w.loop-c.c rest))) w.count-is ∙ w.loop-c.invariant.3 ∙ total)
+      | in-Ends w ↦
+          let rest = chunks_on c.args.h c.args.src.now (c.map.chunk + chunk_size c.args.src.now c.map.chunk + 2) in
+          stopped c.match-chunk_at.count c.match-chunk_at.ending _ (counted (chunks_on c.args.h c.args.src.now c.map.chunk)) _ c.ended_by.ensures
+          (ap counted (chunks_on_lem c.args.h c.args.src.now c.map.chunk ∙ w.in-Ends.ensures.goes rest ∙ ap stop (sym w.ending-is)))
+          (ap (λ (n : ℕ). more n (counted (chunks_on c.args.h c.args.src.now c.map.chunk))) w.count-is ∙ c.map.invariant.2 ∙ total)
+      | in-Entries+then-loop-c-test+in-Ends-next_of w ↦
+          let end = c.map.chunk + w.in-Entries.size in
+          let rest = chunks_on c.args.h c.args.src.now (end + 2) in
+          stopped c.match-chunk_at.count c.match-chunk_at.ending _ (counted (entries_on c.args.h c.args.src.now end w.loop-c.c rest)) _ c.ended_by.ensures
+          (w.in-Ends-next_of.ensures.goes rest ∙ ap (λ (q : Asked). counted (stop q)) (sym w.ending-is))
+          (ap (λ (n : ℕ). more n (counted (entries_on c.args.h c.args.src.now end w.loop-c.c rest))) w.count-is ∙ w.loop-c.invariant.3 ∙ total)
     ]
