@@ -5,6 +5,9 @@
 ghost use Rattle.std.specs.Prelude.{◌≤◌, length};
 ghost use Rattle.crc.specs.Rows.{Table};
 
+use std::io;
+use std::io::Read;
+
 // The bytes of the operation that begins s, or 0 where it is malformed.
 fn size(s: &[u8]) -> usize
     ensures { result ≤ length s.now }
@@ -53,32 +56,36 @@ fn answer(rows: &[[u16; 256]; 8], op: &[u8]) -> u16
 }
 
 // Goes through the operations, and answers each if told to. Whether the input is operations and nothing else.
-fn go_through(rows: &[[u16; 256]; 8], s: &[u8], answering: bool) -> bool
+fn go_through(
+    rt: &impl Print,
+    rows: &[[u16; 256]; 8],
+    s: &[u8],
+    answering: bool,
+) -> io::Result<bool>
     requires { Table rows.now }
 {
     let mut at = 0;
     while at < s.len() {
         let n = size(&s[at..]);
         if n == 0 {
-            return false;
+            return Ok(false);
         }
         if answering {
             let sum = answer(rows, &s[at..at + n]);
-            io::print_decimal(1, sum as u64);
-            io::write_all(1, b"\n");
+            println!(rt; "{sum}")?;
         }
         at += n;
     }
-    true
+    Ok(true)
 }
 
-fn main() {
+fn main(rt: HostRuntime) -> io::Result<()> {
     let rows = crc::table();
-    let mut input = io::large_buffer();
-    let n = io::read_full(0, &mut input);
-    if (n <= 60000) & go_through(&rows, &input[..n], false) {
-        go_through(&rows, &input[..n], true);
-        return;
+    let mut input = Vec::new(rt.alloc());
+    rt.reader().read_to_end(&mut input)?;
+    if (input.len() <= 60000) && go_through(&rt, &rows, &input, false)? {
+        go_through(&rt, &rows, &input, true)?;
+        return Ok(());
     }
-    io::write_all(1, b"I\n");
+    println!(rt; "I")
 }

@@ -4,6 +4,9 @@
 
 ghost use Rattle.std.specs.Prelude.{◌≤◌, length};
 
+use std::io;
+use std::io::Read;
+
 fn wide(b: u8) -> usize {
     b as usize
 }
@@ -23,16 +26,13 @@ fn size(s: &[u8]) -> usize
     if s.len() - 2 < n { 0 } else { 2 + n }
 }
 
-fn print(head: records::Head) {
+fn print(rt: &impl Print, head: records::Head) -> io::Result<()> {
     match head {
-        records::Head::Nothing => {
-            io::write_all(1, b"-\n");
-        }
+        records::Head::Nothing => println!(rt; "-"),
         records::Head::Read(opening) => {
-            io::print_decimal(1, opening.type_code as u64);
-            io::write_all(1, b" ");
-            io::print_decimal(1, opening.handle);
-            io::write_all(1, b"\n");
+            let type_code = opening.type_code;
+            let handle = opening.handle;
+            println!(rt; "{type_code} {handle}")
         }
     }
 }
@@ -49,27 +49,27 @@ fn answer(op: &[u8]) -> records::Head {
 }
 
 // Goes through the operations, and answers each if told to. Whether the input is operations and nothing else.
-fn go_through(s: &[u8], answering: bool) -> bool {
+fn go_through(rt: &impl Print, s: &[u8], answering: bool) -> io::Result<bool> {
     let mut at = 0;
     while at < s.len() {
         let n = size(&s[at..]);
         if n == 0 {
-            return false;
+            return Ok(false);
         }
         if answering {
-            print(answer(&s[at..at + n]));
+            print(rt, answer(&s[at..at + n]))?;
         }
         at += n;
     }
-    true
+    Ok(true)
 }
 
-fn main() {
-    let mut input = io::large_buffer();
-    let n = io::read_full(0, &mut input);
-    if (n <= 60000) & go_through(&input[..n], false) {
-        go_through(&input[..n], true);
-        return;
+fn main(rt: HostRuntime) -> io::Result<()> {
+    let mut input = Vec::new(rt.alloc());
+    rt.reader().read_to_end(&mut input)?;
+    if (input.len() <= 60000) && go_through(&rt, &input, false)? {
+        go_through(&rt, &input, true)?;
+        return Ok(());
     }
-    io::write_all(1, b"I\n");
+    println!(rt; "I")
 }

@@ -1,6 +1,6 @@
 // The four sentinels: by part, the one at the start and the one at the end (§9, §10.1).
 ghost use Rattle.std.specs.Prelude.{◌≡◌, [], ◌+◌, ◌<◌, ◌≤◌, length, get_or};
-ghost use Rattle.account.specs.Statement.{part};
+ghost use Rattle.account.specs.Statement.{part as span};
 ghost use Rattle.octets.specs.Octets.{same};
 ghost use Rattle.rules.specs.Section.{sentinels};
 
@@ -39,7 +39,7 @@ fn sentinel(part: usize, end: usize) -> [u8; 16]
 pub fn spells(part: usize, end: usize, at: usize, piece: &[u8]) -> bool
     requires part_bound { (part < 2) × (end < 2) }
     requires piece_bound { at + length piece.now ≤ 16 }
-    ensures { result ≡ same piece.now (part (get_or (get_or sentinels part []) end []) at (length piece.now)) }
+    ensures { result ≡ same piece.now (span (get_or (get_or sentinels part []) end []) at (length piece.now)) }
 {
     let s = sentinel(part, end);
     let e = at + piece.len();

@@ -3,7 +3,7 @@ use Prim.Native.Nat.{◌+◌, ◌≤◌}
 use mathlib.Core.Bool.{true}
 use mathlib.Core.Path.{◌≡◌, sym, ap, ◌∙◌}
 use native.Mathlib.Omega.{arith}
-use borrow.Author.Tests.{not_true, not_false}
+use borrow.Author.Tests.{not-true, not-false}
 use Rattle.rules.specs.Header.{map_end}
 use Rattle.rules.specs.Map.{chunk_size, chunk_computed, chunk_stored, chunk_fits}
 use Rattle.rules.specs.PlainList.{stop}
@@ -19,7 +19,7 @@ module _ (c : tie.Else2) where
 
   fits : chunk_fits c.before.before.before.before.before.args.h c.before.before.before.before.before.args.chunk c.before.be16-at.result ≡ true
   unfolding chunk_fits
-  fits = rw (← c.before.before.before.map-end.ensures.0) (not_false _ c.if2.false)
+  fits = rw (← c.before.before.before.map-end.ensures.0) (not-false _ c.if2.false)
 
   inside : c.before.before.before.before.before.args.chunk + c.before.be16-at.result + 2 ≤ map_end c.before.before.before.before.before.args.h
   inside = fits_end _ _ _ fits
@@ -38,7 +38,7 @@ returns-2 c =
     let e = c.before.before.before in
     let a = e.before.before.before.args in (
       λ rest. unfit a.h a.src.now a.chunk rest (omega (arith, e.before.map-end.ensures.0)) _ c.before.before.be16-at.ensures
-          (rw (← e.before.map-end.ensures.0) (not_true _ c.before.if2.true)) ∙ ap stop (sym c.broken2.ensures),
+          (rw (← e.before.map-end.ensures.0) (not-true _ c.before.if2.true)) ∙ ap stop (sym c.broken2.ensures),
       tt,
     )
 

@@ -2,7 +2,7 @@
 use mathlib.Core.Bool.{true}
 use mathlib.Core.Path.{◌≡◌, sym, ap, ◌∙◌}
 use native.Mathlib.Omega.{arith}
-use borrow.Author.Tests.{not_true, not_false}
+use borrow.Author.Tests.{not-true, not-false}
 use Rattle.rules.specs.Object.{may_start}
 use Rattle.rules.specs.PlainList.{stop}
 use Rattle.rules.proofs.Object.{start-inside}
@@ -12,10 +12,10 @@ use Rattle.survey.proofs.objects.object_at.Statement.{statement}
 use Rattle.survey.proofs.objects.object_at.Tie as tie
 
 starts : (c : tie.Else1) → may_start c.before.before.before.args.h c.before.before.before.args.location ≡ true
-starts c = sym c.before.may-start.ensures ∙ not_false _ c.if1.false
+starts c = sym c.before.may-start.ensures ∙ not-false _ c.if1.false
 
 returns : tie.Need-returns
-returns c = let a = c.before.before.before.before.args in λ rest. no_start a.h a.src.now a.handle a.location rest (sym c.before.before.may-start.ensures ∙ not_true _ c.before.if1.true) ∙ ap stop (sym c.broken.ensures)
+returns c = let a = c.before.before.before.before.args in λ rest. no_start a.h a.src.now a.handle a.location rest (sym c.before.before.may-start.ensures ∙ not-true _ c.before.if1.true) ∙ ap stop (sym c.broken.ensures)
 
 le16-at-requires : tie.Need-le16-at-requires
 le16-at-requires c κs = omega (arith, start-inside c.before.before.before.args.h c.before.before.before.args.location (starts c), c.before.before.before.requires.1)

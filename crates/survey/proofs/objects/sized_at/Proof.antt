@@ -3,7 +3,7 @@ use Prim.Native.Nat.{◌+◌}
 use mathlib.Core.Bool.{true}
 use mathlib.Core.Path.{◌≡◌, sym, ap, ◌∙◌}
 use native.Mathlib.Omega.{arith}
-use borrow.Author.Tests.{not_true, not_false}
+use borrow.Author.Tests.{not-true, not-false}
 use Rattle.rules.specs.Object.{may_end}
 use Rattle.rules.specs.PlainList.{stop, verdict_then}
 use Rattle.rules.proofs.Object.{end_inside}
@@ -16,7 +16,7 @@ use Rattle.survey.proofs.objects.sized_at.Tie as tie
 ends : (c : tie.Else2)
     → may_end c.before.before.before.before.args.h c.before.before.before.before.args.location
     (c.before.before.before.before.args.location + c.before.before.before.before.args.field + c.before.before.before.before.args.size + 2) ≡ true
-ends c = sym c.before.may-end.ensures ∙ not_false _ c.if2.false
+ends c = sym c.before.may-end.ensures ∙ not-false _ c.if2.false
 
 returns : tie.Need-returns
 returns c = let a = c.before.before.before.args in λ rest. no_size a.h a.src.now a.handle a.location a.field a.size rest c.before.if1.true ∙ ap stop (sym c.broken.ensures)
@@ -25,7 +25,7 @@ returns-2 : tie.Need-returns-2
 returns-2 c =
     let e = c.before.before.before in
     let a = e.before.before.args in
-    λ rest. no_end a.h a.src.now a.handle a.location a.field a.size rest (omega arith) (sym c.before.before.may-end.ensures ∙ not_true _ c.before.if2.true) ∙ ap stop (sym c.broken2.ensures)
+    λ rest. no_end a.h a.src.now a.handle a.location a.field a.size rest (omega arith) (sym c.before.before.may-end.ensures ∙ not-true _ c.before.if2.true) ∙ ap stop (sym c.broken2.ensures)
 
 judge-at-requires : tie.Need-judge-at-requires
 judge-at-requires c κs =

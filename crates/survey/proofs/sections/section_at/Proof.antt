@@ -1,6 +1,6 @@
 -- `section_at` meets its contract.
 use mathlib.Core.Path.{sym, ◌∙◌}
-use borrow.Author.Tests.{not_true, not_false}
+use borrow.Author.Tests.{not-true, not-false}
 use Rattle.rules.specs.Section.{section_size, section_computed, section_stored, section_record}
 use Rattle.survey.proofs.Fields.{too_short, other_start, other_size, other_sum, other_end, section-holds}
 use borrow.Author.Rules.{rules}
@@ -17,7 +17,7 @@ returns-2 c =
     let long = c.before.before in
     let a = long.before.before.before.args in λ rest.
     other_start a.src.now a.part a.start a.total _ long.before.part-number.ensures rest long.if1.false
-    (sym c.before.sentinel-at.ensures ∙ not_true _ c.if2.true)
+    (sym c.before.sentinel-at.ensures ∙ not-true _ c.if2.true)
 
 returns-3 : tie.Need-returns-3
 unfolding section_size
@@ -26,7 +26,7 @@ returns-3 c =
     let long = begun.before.before in
     let a = long.before.before.before.args in λ rest.
     other_size a.src.now a.part a.start a.total _ long.before.part-number.ensures rest long.if1.false
-    (sym begun.before.sentinel-at.ensures ∙ not_false _ begun.if2.false) _ c.before.number_at.ensures.0 c.if3.true
+    (sym begun.before.sentinel-at.ensures ∙ not-false _ begun.if2.false) _ c.before.number_at.ensures.0 c.if3.true
 
 returns-4 : tie.Need-returns-4
 unfolding section_size section_computed section_stored
@@ -36,7 +36,7 @@ returns-4 c =
     let long = begun.before.before in
     let a = long.before.before.before.args in λ rest.
     other_sum a.src.now a.part a.start a.total _ long.before.part-number.ensures rest long.if1.false
-    (sym begun.before.sentinel-at.ensures ∙ not_false _ begun.if2.false) _ sized.before.number_at.ensures.0 sized.if3.false
+    (sym begun.before.sentinel-at.ensures ∙ not-false _ begun.if2.false) _ sized.before.number_at.ensures.0 sized.if3.false
     _ _ c.before.before.sum-at.ensures c.before.le16-at.ensures c.if4.true
 
 returns-5 : tie.Need-returns-5
@@ -48,9 +48,9 @@ returns-5 c =
     let long = begun.before.before in
     let a = long.before.before.before.args in λ rest.
     other_end a.src.now a.part a.start a.total _ long.before.part-number.ensures rest long.if1.false
-    (sym begun.before.sentinel-at.ensures ∙ not_false _ begun.if2.false) _ sized.before.number_at.ensures.0 sized.if3.false
+    (sym begun.before.sentinel-at.ensures ∙ not-false _ begun.if2.false) _ sized.before.number_at.ensures.0 sized.if3.false
     _ _ summed.before.before.sum-at.ensures summed.before.le16-at.ensures summed.if4.false
-    (sym c.before.sentinel-at2.ensures ∙ not_true _ c.if5.true)
+    (sym c.before.sentinel-at2.ensures ∙ not-true _ c.if5.true)
 
 returns-6 : tie.Need-returns-6
 unfolding section_size section_computed section_stored section_record
@@ -61,9 +61,9 @@ returns-6 c =
     let long = begun.before.before in
     let a = long.before.before.before.args in λ rest.
     section-holds a.src.now a.part a.start a.total _ long.before.part-number.ensures rest long.if1.false
-    (sym begun.before.sentinel-at.ensures ∙ not_false _ begun.if2.false) _ sized.before.number_at.ensures.0 sized.if3.false
+    (sym begun.before.sentinel-at.ensures ∙ not-false _ begun.if2.false) _ sized.before.number_at.ensures.0 sized.if3.false
     _ _ summed.before.before.sum-at.ensures summed.before.le16-at.ensures summed.if4.false
-    (sym c.before.sentinel-at2.ensures ∙ not_false _ c.if5.false)
+    (sym c.before.sentinel-at2.ensures ∙ not-false _ c.if5.false)
 
 pub section_at_spec : {M : Type 1} → statement M
 section_at_spec =

@@ -1,0 +1,8 @@
+-- `start` meets its contract.
+use Rattle.flat.proofs.Taking.{started}
+use borrow.Author.Rules.{rules}
+use Rattle.flat.proofs.start.Goals as goal
+
+pub returns : goal.returns
+returns c =
+    started c.start_answer-answer.ensures c.fresh.ensures c.enter_section-state.ensures

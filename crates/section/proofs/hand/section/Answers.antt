@@ -1,0 +1,6 @@
+-- `section` meets its contract.
+use borrow.Author.Rules.{rules}
+use Rattle.section.proofs.hand.section.Goals as goal
+
+pub returns : goal.returns
+returns c = rw (← c.part_number.ensures.0) c.locator.ensures

@@ -1,0 +1,37 @@
+-- `feed_section_crc` meets its contract: the first two bytes of the field make the checksum.
+use mathlib.Core.Path.{◌≡◌}
+use native.Mathlib.Omega.{arith}
+use lib.ListN.{length}
+use borrow.Author.Tests.{eq-eqb, ne_eqb}
+use borrow.Author.Rules.{rules}
+use Rattle.streaming.specs.Choose.{if◌then◌else◌}
+use Rattle.section.specs.Section.{feed_section_crc}
+use Rattle.section.proofs.Bounds.{four_in_field, late_lt}
+use Rattle.section.proofs.Fields.{two_bytes}
+use Rattle.section.proofs.pieces.feed_section_crc.Goals as goal
+
+pub copy_in-requires : goal.copy_in-requires
+copy_in-requires c =
+    omega (arith, four_in_field c.args.s _ c.well_formed.0)
+
+pub overflow_add-done : goal.overflow_add-done
+overflow_add-done c =
+    omega (arith, late_lt _ _ c.well_formed.0 c.requires.fit_section (omega arith))
+
+pub overflow_add-s-2 : goal.overflow_add-s-2
+overflow_add-s-2 c =
+    omega (arith, late_lt _ _ c.well_formed.0 c.requires.fit_section (omega arith))
+
+pub settle_section_crc-requires : goal.settle_section_crc-requires
+settle_section_crc-requires c = (search rules, omega arith)
+
+pub returns-then-done-s : goal.returns-then-done-s
+unfolding feed_section_crc if◌then◌else◌
+returns-then-done-s c =
+    let h : length c.copy_in.new.dst ≡ 4 = search rules in
+    rw (← c.copy_in.ensures, eq-eqb _ _ c.if-done-s.true)
+    (rw (c.le16.ensures, two_bytes) at c.settle_section_crc.ensures)
+
+pub returns : goal.returns
+unfolding feed_section_crc if◌then◌else◌
+returns c = rw (← c.copy_in.ensures, ne_eqb _ _ c.if-done-s.false) c.go_on.ensures
