@@ -10,8 +10,7 @@ use Rattle.streaming.specs.Choose.{if◌then◌else◌}
 use Rattle.rules.specs.Map.{chunk_size}
 use Rattle.oneshot.specs.declared.steps.Cursor.{Cursor}
 use Rattle.oneshot.specs.Cursor.{opened_of}
-use Rattle.oneshot.proofs.steps.opened.Statement.{statement}
-use Rattle.oneshot.proofs.steps.opened.Tie as tie
+use Rattle.oneshot.proofs.steps.opened.Goals as goal
 
 module _ (src : List ℕ) (c : Cursor) where
   shut : length src < c.chunk + chunk_size src c.chunk + 2 → c ≡ opened_of src c
@@ -23,21 +22,16 @@ module _ (src : List ℕ) (c : Cursor) where
   unfolding opened_of if◌then◌else◌
   opens size e h = rw (← e, le-leb _ _ h)
 
-returns : tie.Need-returns
-returns c = shut _ _ (omega (arith, c.if1.true))
+pub returns-then-len-chunk : goal.returns-then-len-chunk
+returns-then-len-chunk c = shut _ _ (omega (arith, c.if-len-chunk.true))
 
-returns-2 : tie.Need-returns-2
-returns-2 c = shut _ _ (omega (arith, c.if2.true))
+pub returns-then-len-chunk-lt2 : goal.returns-then-len-chunk-lt2
+returns-then-len-chunk-lt2 c = shut _ _ (omega (arith, c.if-len-chunk-lt2.true))
 
-returns-3 : tie.Need-returns-3
+pub returns-then-len-chunk-2 : goal.returns-then-len-chunk-2
 unfolding chunk_size
-returns-3 c = shut _ _ (omega (arith, c.if3.true, c.before.be16-at.ensures))
+returns-then-len-chunk-2 c = shut _ _ (omega (arith, c.if-len-chunk-2.true, c.be16_at-size.ensures))
 
-returns-4 : tie.Need-returns-4
+pub returns : goal.returns
 unfolding chunk_size
-returns-4 c = opens _ _ c.before.be16-at.result c.before.be16-at.ensures (omega (arith, c.if3.false))
-
-pub opened_spec : {M : Type 1} → statement M
-opened_spec =
-    tie.close (tie.spec returns (search rules) returns-2 (search rules) (search rules) (search rules) (search rules) returns-3 (search rules)
-    (search rules) (search rules) (search rules) returns-4)
+returns c = opens _ _ c.be16_at-size.result c.be16_at-size.ensures (omega (arith, c.if-len-chunk-2.false))

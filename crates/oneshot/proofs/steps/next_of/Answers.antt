@@ -16,8 +16,7 @@ use Rattle.survey.specs.declared.entries.EntryRead.TheVariants.{Leads, Refused}
 use Rattle.survey.proofs.Onward.{leads-told, refused-told, NearEntry, near-handle}
 use Rattle.oneshot.proofs.Entries.{leads-inside}
 use Rattle.oneshot.proofs.Near.{hand_near}
-use Rattle.oneshot.proofs.steps.next_of.Statement.{statement}
-use Rattle.oneshot.proofs.steps.next_of.Tie as tie
+use Rattle.oneshot.proofs.steps.next_of.Goals as goal
 
 module _ (src : List ℕ) (c d : Cursor) (hand : d ≡ in_hand src c) (r : EntryRead) (told : r ≡ entry_read (next_entry src d)) where
   module _ (n handle location : ℕ) (is : r ≡ Leads n handle location) where
@@ -45,37 +44,19 @@ module _ (src : List ℕ) (c d : Cursor) (hand : d ≡ in_hand src c) (r : Entry
   unfolding step_of visit_of
   stays n o is g = let e = refused-told (next_entry src d) n (sym is ∙ told) in rw (← hand, e, ← g)
 
-record-at-requires : tie.Need-record-at-requires
-record-at-requires c κs =
-    let a = c.before.before.before.before.before.before in
-    let hand = c.before.before.before.before.in-hand in
-    let entry = c.before.before.before.entry_at in
-    to_below a.args.src.now a.args.c hand.result hand.ensures entry.result entry.ensures _ _ _ c.before.bytes.given.1 a.requires
+pub record_at-object-requires : goal.record_at-object-requires
+record_at-object-requires c =
+    to_below c.args.src.now c.args.c c.in_hand-c.result c.in_hand-c.ensures c.entry_at.result c.entry_at.ensures _ _ _ c.in-Leads.is c.requires
 
-add-t11 : tie.Need-overflow-add-t11
-add-t11 c =
-    let a = c.before.before.before.before.before.before.before.before.args in
-    let hand = c.before.before.before.before.before.before.in-hand in
-    let entry = c.before.before.before.before.before.entry_at in
-    let is = c.before.before.before.bytes.given.1 in
-    record { fits = at-below a.src.now a.c hand.result hand.ensures entry.result entry.ensures _ _ _ is (search rules) (search rules) }
+pub overflow_add-next : goal.overflow_add-next
+overflow_add-next c =
+    record { fits = at-below c.args.src.now c.args.c c.in_hand-c.result c.in_hand-c.ensures c.entry_at.result c.entry_at.ensures _ _ _ c.in-Leads.is (search rules) (search rules) }
 
-returns : tie.Need-returns
-returns c =
-    let a = c.before.before.before.before.before.before.before.before.args in
-    let hand = c.before.before.before.before.before.before.in-hand in
-    let entry = c.before.before.before.before.before.entry_at in
-    let object = c.before.record-at in
-    visits a.src.now a.c hand.result hand.ensures entry.result entry.ensures _ _ _ c.before.before.before.bytes.given.1
-    object.result object.ensures
+pub returns-in-Leads : goal.returns-in-Leads
+returns-in-Leads c =
+    visits c.args.src.now c.args.c c.in_hand-c.result c.in_hand-c.ensures c.entry_at.result c.entry_at.ensures _ _ _ c.in-Leads.is
+    c.record_at-object.result c.record_at-object.ensures
 
-returns-2 : tie.Need-returns-2
-returns-2 c =
-    let a = c.before.before.before.before.before.before.args in
-    let hand = c.before.before.before.before.in-hand in
-    let entry = c.before.before.before.entry_at in
-    stays a.src.now a.c hand.result hand.ensures entry.result entry.ensures _ c.blank.result c.before.enum_told.given.1 c.blank.ensures
-
-pub next_of_spec : {M : Type 1} → statement M
-next_of_spec =
-    tie.close (tie.spec (search rules) (search rules) (search rules) record-at-requires add-t11 (search rules) (search rules) returns returns-2)
+pub returns-in-Refused : goal.returns-in-Refused
+returns-in-Refused c =
+    stays c.args.src.now c.args.c c.in_hand-c.result c.in_hand-c.ensures c.entry_at.result c.entry_at.ensures _ c.blank.result c.in-Refused.is c.blank.ensures

@@ -1,4 +1,5 @@
 -- `record_at` meets its contract.
+-- ---- the size, by its words
 use Prim.Native.Nat.{ℕ, ◌+◌, ◌*◌, ◌%◌, ◌≤◌, ◌<◌}
 use mathlib.Core.Bool.{Bool}
 use mathlib.Core.List.{List}
@@ -16,8 +17,7 @@ use Rattle.records.specs.Answer.{head_of}
 use Rattle.records.specs.declared.Head.{Head}
 use Rattle.oneshot.specs.Cursor.{blank, record_of_head, sized_at, record_at}
 use Rattle.oneshot.proofs.Reading.{words_at}
-use Rattle.oneshot.proofs.objects.record_at.Statement.{statement}
-use Rattle.oneshot.proofs.objects.record_at.Tie as tie
+use Rattle.oneshot.proofs.objects.record_at.Goals as goal
 
 module _ (r2000 : Bool) (src : List ℕ) (handle location : ℕ) where
   record_is : (field_bytes size : ℕ) (head : Head) (r : ObjectRecord) → size_at src location ≡ sized field_bytes size
@@ -31,7 +31,6 @@ module _ (r2000 : Bool) (src : List ℕ) (handle location : ℕ) where
   unfolding record_at
   blank-is e r g = g ∙ sym (ap (sized_at r2000 src handle location) e)
 
--- ---- the size, by its words
 module _ (src : List ℕ) (location first : ℕ) (f : first ≡ little_endian (part src location 2)) where
   one_word : first < 0x8000 → size_at src location ≡ sized 2 first
   unfolding size_of_words if◌then◌else◌
@@ -46,33 +45,20 @@ module _ (src : List ℕ) (location first : ℕ) (f : first ≡ little_endian (p
     unfolding size_of_words if◌then◌else◌
     no_size k = words_at src location ∙ rw (← f, ← s, le-ltb first 0x8000 h, le-ltb second 0x8000 k)
 
-returns : tie.Need-returns
+pub returns-then-first-lt32768 : goal.returns-then-first-lt32768
+returns-then-first-lt32768 c =
+    record_is c.args.r2000 c.args.src.now c.args.handle c.args.location 2 c.word_at-first.result c.head_at.result c.record_of_head.result
+    (one_word c.args.src.now c.args.location c.word_at-first.result c.word_at-first.ensures.0 c.if-first-lt32768.true) c.head_at.ensures c.record_of_head.ensures
+
+pub returns-then-second-lt32768 : goal.returns-then-second-lt32768
+returns-then-second-lt32768 c =
+    record_is c.args.r2000 c.args.src.now c.args.handle c.args.location 4 _ c.head_at-then-second-lt32768.result c.record_of_head-then-second-lt32768.result
+    (two_words_lem c.args.src.now c.args.location c.word_at-first.result c.word_at-first.ensures.0 c.word_at-second.result c.word_at-second.ensures.0
+    c.if-first-lt32768.false c.if-second-lt32768.true)
+    c.head_at-then-second-lt32768.ensures c.record_of_head-then-second-lt32768.ensures
+
+pub returns : goal.returns
 returns c =
-    let a = c.before.before.before.before.before.args in
-    let first = c.before.before.before.word_at in
-    record_is a.r2000 a.src.now a.handle a.location 2 first.result c.before.head_at.result c.record-of-head.result
-    (one_word a.src.now a.location first.result first.ensures.0 c.before.before.if1.true) c.before.head_at.ensures c.record-of-head.ensures
-
-returns-2 : tie.Need-returns-2
-returns-2 c =
-    let a = c.before.before.before.before.before.before.before.args in
-    let first = c.before.before.before.before.before.word_at in
-    let second = c.before.before.before.word-at2 in
-    record_is a.r2000 a.src.now a.handle a.location 4 _ c.before.head-at2.result c.record-of-head2.result
-    (two_words_lem a.src.now a.location first.result first.ensures.0 second.result second.ensures.0
-    c.before.before.before.before.if1.false c.before.before.if2.true)
-    c.before.head-at2.ensures c.record-of-head2.ensures
-
-returns-3 : tie.Need-returns-3
-returns-3 c =
-    let a = c.before.before.before.before.before.before.args in
-    let first = c.before.before.before.before.word_at in
-    let second = c.before.before.word-at2 in
-    blank-is a.r2000 a.src.now a.handle a.location
-    (no_size a.src.now a.location first.result first.ensures.0 second.result second.ensures.0 c.before.before.before.if1.false c.before.if2.false)
+    blank-is c.args.r2000 c.args.src.now c.args.handle c.args.location
+    (no_size c.args.src.now c.args.location c.word_at-first.result c.word_at-first.ensures.0 c.word_at-second.result c.word_at-second.ensures.0 c.if-first-lt32768.false c.if-second-lt32768.false)
     c.blank.result c.blank.ensures
-
-pub record_at_spec : {M : Type 1} → statement M
-record_at_spec =
-    tie.close (tie.spec (search rules) (search rules) (search rules) (search rules) returns (search rules) (search rules) (search rules)
-    (search rules) (search rules) (search rules) (search rules) returns-2 (search rules) returns-3)

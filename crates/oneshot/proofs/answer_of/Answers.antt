@@ -1,0 +1,6 @@
+-- `answer_of` meets its contract.
+use borrow.Author.Rules.{rules}
+use Rattle.oneshot.proofs.answer_of.Goals as goal
+
+pub returns : goal.returns
+returns c = rw (← c.survey.ensures) c.with_room.ensures
