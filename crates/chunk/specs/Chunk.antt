@@ -1,5 +1,5 @@
 -- Stage Chunk: what is asked for in a chunk of the map, and what a piece of it does.
-use Rattle.std.specs.Prelude.{ℕ, ◌+◌, ◌-◌, List, [], ◌∷◌, length, take, replicate, ltb, leb, eqb}
+use Rattle.std.specs.Prelude.{ℕ, ◌+◌, ◌-◌, List, length, take, replicate, ltb, leb, eqb}
 use Rattle.std.proofs.lemmas.List.Edits.{sets}
 use Rattle.crc.specs.Crc.{crc_of}
 use Rattle.octets.specs.Octets.{big_endian}

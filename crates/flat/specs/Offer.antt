@@ -1,5 +1,5 @@
 -- Whether a piece is taken: what the code tests before a stage sees the piece.
-use Rattle.std.specs.Prelude.{ℕ, ◌≤◌, ◌<◌, Bool, ◌&&◌, List, length, get_or, ltb, leb, eqb}
+use Rattle.std.specs.Prelude.{ℕ, ◌≤◌, ◌<◌, Bool, ◌&&◌, List, get_or, ltb, leb, eqb}
 use Rattle.streaming.specs.Choose.{if◌then◌else◌}
 use Rattle.streaming.specs.State.{refused_by}
 use Rattle.streaming.specs.declared.Request.{Request}

@@ -6,7 +6,7 @@ use mathlib.Core.Logic.{◌⊎◌, inl, inr}
 use lib.ListN.{length, set, take, drop, get_or, length-append, length-take}
 use lib.Seq.{take-suc, take_all, take_at, take-suc-set, sets, sets-eq}
 use mathlib.Core.Bool.{Bool, true, false}
-use lib.Dec.{ltb, leb}
+use lib.Dec.{leb}
 use native.Mathlib.Nat.{pow-succ', pow-le-pow_right, mod-eq_of_lt, mod-lt, one-le-pow}
 use native.Mathlib.Numerals.{add-one}
 use native.Mathlib.Omega.{arith}

@@ -2,7 +2,6 @@
 use Rattle.streaming.specs.Choose.{if◌then◌else◌}
 use Rattle.streaming.proofs.Cases.{cases}
 use Rattle.chunk.specs.Fit.{chunk_done}
-use borrow.Author.Rules.{rules}
 use Rattle.chunk.proofs.chunk_done.Goals as goal
 
 pub returns-then-done-lt2 : goal.returns-then-done-lt2

@@ -3,7 +3,6 @@ use borrow.Author.Tests.{lt-leb}
 use Rattle.streaming.specs.Choose.{if◌then◌else◌}
 use Rattle.streaming.proofs.Cases.{cases}
 use Rattle.chunk.specs.Chunk.{enter_chunk}
-use borrow.Author.Rules.{rules}
 use Rattle.chunk.proofs.enter_chunk.Goals as goal
 
 pub returns-then-chunk-end : goal.returns-then-chunk-end

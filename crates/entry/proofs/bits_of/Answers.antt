@@ -1,6 +1,5 @@
 -- `bits_of` meets its contract: a mask of the low bits is a remainder.
 use native.Mathlib.Omega.{arith}
-use borrow.Author.Rules.{rules}
 use lib.Bits.{and_mask}
 use Rattle.streaming.specs.Choose.{if◌then◌else◌}
 use Rattle.entry.specs.Entry.{bits_of}

@@ -1,7 +1,6 @@
 -- `feed_entry` meets its contract: the byte's seven bits, moved up by at most 56, stay within 64.
 use Prim.Native.Nat.{◌+◌, ◌^◌, ◌<◌, ◌≤◌}
 use native.Mathlib.Omega.{arith}
-use borrow.Author.Rules.{rules}
 use borrow.Author.Tests.{lt-leb, le-leb}
 use lib.Pow.{shl_exact}
 use Rattle.streaming.specs.Choose.{if◌then◌else◌}

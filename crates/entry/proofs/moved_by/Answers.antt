@@ -1,7 +1,6 @@
 -- `moved_by` meets its contract: a sum is tested before it is made.
 use Prim.Native.Nat.{◌+◌, ◌^◌, ◌<◌, ◌≤◌}
 use native.Mathlib.Omega.{arith}
-use borrow.Author.Rules.{rules}
 use borrow.Author.Tests.{le-leb, lt-leb, lt-ltb, le-ltb}
 use Rattle.streaming.specs.Choose.{if◌then◌else◌}
 use Rattle.entry.specs.Entry.{moved_by}

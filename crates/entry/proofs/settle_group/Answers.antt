@@ -1,5 +1,4 @@
 -- `settle_group` meets its contract.
-use borrow.Author.Rules.{rules}
 use borrow.Author.Tests.{eq-eqb, ne_eqb}
 use Rattle.streaming.specs.Choose.{if◌then◌else◌}
 use Rattle.entry.specs.Entry.{settle_group}

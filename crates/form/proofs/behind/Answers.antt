@@ -1,7 +1,6 @@
 -- `behind` meets its contract.
 use native.Mathlib.Nat.{mul-le-mul_right}
 use native.Mathlib.Omega.{arith}
-use borrow.Author.Rules.{rules}
 use Rattle.streaming.specs.Choose.{if◌then◌else◌}
 use Rattle.form.proofs.Sections.{too_short, too_few, too_many, cut_off, standing}
 use Rattle.form.proofs.behind.Goals as goal

@@ -1,5 +1,4 @@
 -- `locator` meets its contract.
-use borrow.Author.Rules.{rules}
 use borrow.Author.Tests.{lt-ltb, le-ltb}
 use Rattle.streaming.specs.Choose.{if◌then◌else◌}
 use Rattle.form.specs.Form.{locator_in}

@@ -1,6 +1,5 @@
 -- `read` meets its contract.
 use mathlib.Core.Path.{sym, ◌∙◌}
-use borrow.Author.Rules.{rules}
 use Rattle.streaming.specs.Choose.{if◌then◌else◌}
 use Rattle.form.specs.Form.{form_of}
 use Rattle.form.proofs.Reading.{form_held}

@@ -3,7 +3,6 @@ use borrow.Author.Tests.{le-ltb}
 use Rattle.streaming.specs.Choose.{if◌then◌else◌}
 use Rattle.streaming.proofs.Cases.{cases}
 use Rattle.rules.specs.Header.{start_refusal}
-use borrow.Author.Rules.{rules}
 use Rattle.header.proofs.start_answer.Goals as goal
 
 pub returns-then-h-gt6 : goal.returns-then-h-gt6

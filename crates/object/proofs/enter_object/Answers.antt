@@ -1,7 +1,6 @@
 -- `enter_object` meets its contract.
 use Rattle.streaming.specs.Choose.{if◌then◌else◌}
 use Rattle.object.specs.Object.{enter_object}
-use borrow.Author.Rules.{rules}
 use Rattle.object.proofs.enter_object.Goals as goal
 
 pub returns-then-may_start : goal.returns-then-may_start

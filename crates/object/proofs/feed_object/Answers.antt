@@ -4,7 +4,6 @@ use borrow.Author.Tests.{eq-eqb, ne_eqb, lt-ltb, le-ltb}
 use Rattle.streaming.specs.Choose.{if◌then◌else◌}
 use Rattle.object.specs.Object.{feed_object}
 use Rattle.object.proofs.Demand.{span_small, word_room, data_room, crc_room}
-use borrow.Author.Rules.{rules}
 use Rattle.object.proofs.feed_object.Goals as goal
 
 pub feed_word-requires : goal.feed_word-requires

@@ -2,7 +2,6 @@
 use Rattle.streaming.specs.Choose.{if◌then◌else◌}
 use Rattle.streaming.proofs.Cases.{cases}
 use Rattle.object.specs.Object.{object_end}
-use borrow.Author.Rules.{rules}
 use Rattle.object.proofs.object_end.Goals as goal
 
 pub returns-then-ms_len-eq0 : goal.returns-then-ms_len-eq0

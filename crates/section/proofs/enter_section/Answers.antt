@@ -1,5 +1,4 @@
 -- `enter_section` meets its contract.
-use borrow.Author.Rules.{rules}
 use borrow.Author.Tests.{le-leb, lt-leb}
 use Rattle.streaming.specs.Choose.{if◌then◌else◌}
 use Rattle.section.specs.Section.{enter_section}

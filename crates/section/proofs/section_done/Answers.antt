@@ -1,5 +1,4 @@
 -- `section_done` meets its contract.
-use borrow.Author.Rules.{rules}
 use Rattle.streaming.specs.Choose.{if◌then◌else◌}
 use Rattle.streaming.proofs.Cases.{cases}
 use Rattle.section.specs.Fit.{section_done}

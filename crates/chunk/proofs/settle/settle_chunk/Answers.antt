@@ -7,7 +7,6 @@ use Rattle.streaming.proofs.Cases.{cases}
 use Rattle.rules.specs.Header.{map_end}
 use Rattle.header.proofs.Bounds.{map_end_below}
 use Rattle.chunk.specs.Chunk.{settle_chunk}
-use borrow.Author.Rules.{rules}
 use Rattle.chunk.proofs.settle.settle_chunk.Goals as goal
 
 pub returns-then-m-end : goal.returns-then-m-end
@@ -23,7 +22,7 @@ returns-then-s-eq2 c =
 pub overflow_add-first : goal.overflow_add-first
 overflow_add-first c =
     let e : map_end c.args.s.header < 2 ^ 33 =
-      let l = c.well_formed.0.1.1.0.1.1.1.1.0 in map_end_below c.args.s.header l.0 l.1.1 in
+    let l = c.well_formed.0.1.1.0.1.1.1.1.0 in map_end_below c.args.s.header l.0 l.1.1 in
     omega (arith, c.requires.room)
 
 pub returns : goal.returns

@@ -2,7 +2,6 @@
 use Rattle.streaming.specs.Choose.{if◌then◌else◌}
 use Rattle.rules.specs.Map.{chunk_fits}
 use Rattle.chunk.specs.Chunk.{settle_chunk_size}
-use borrow.Author.Rules.{rules}
 use Rattle.chunk.proofs.settle.settle_chunk_size.Goals as goal
 
 pub returns-then-size-m : goal.returns-then-size-m

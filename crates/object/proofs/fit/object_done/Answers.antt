@@ -3,7 +3,6 @@ use native.Mathlib.Omega.{arith}
 use borrow.Author.Tests.{eq-eqb, ne_eqb}
 use Rattle.streaming.specs.Choose.{if◌then◌else◌}
 use Rattle.object.specs.Fit.{object_done}
-use borrow.Author.Rules.{rules}
 use Rattle.object.proofs.fit.object_done.Goals as goal
 
 pub returns-then-s-eq0 : goal.returns-then-s-eq0

@@ -6,7 +6,6 @@ use Rattle.streaming.specs.Choose.{if◌then◌else◌}
 use Rattle.rules.specs.Header.{map_end}
 use Rattle.header.proofs.Bounds.{map_end_below}
 use Rattle.object.specs.Object.{leave_object}
-use borrow.Author.Rules.{rules}
 use Rattle.object.proofs.verdict.leave_object.Goals as goal
 
 pub overflow_add-m : goal.overflow_add-m

@@ -2,7 +2,6 @@
 use borrow.Author.Tests.{eq-eqb, ne_eqb}
 use Rattle.streaming.specs.Choose.{if◌then◌else◌}
 use Rattle.object.specs.Object.{settle_object_crc}
-use borrow.Author.Rules.{rules}
 use Rattle.object.proofs.verdict.settle_object_crc.Goals as goal
 
 pub returns-then-stored-s : goal.returns-then-stored-s

@@ -4,7 +4,6 @@ use native.Mathlib.Omega.{arith}
 use borrow.Author.Tests.{lt-ltb, le-ltb}
 use Rattle.streaming.specs.Choose.{if◌then◌else◌}
 use Rattle.object.specs.Object.{settle_object_size}
-use borrow.Author.Rules.{rules}
 use Rattle.object.proofs.words.settle_object_size.Goals as goal
 
 pub returns-then-size-eq0 : goal.returns-then-size-eq0

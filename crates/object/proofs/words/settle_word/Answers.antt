@@ -2,7 +2,6 @@
 use borrow.Author.Tests.{lt-ltb, le-ltb, eq-eqb, ne_eqb}
 use Rattle.streaming.specs.Choose.{if◌then◌else◌}
 use Rattle.object.specs.Object.{settle_word}
-use borrow.Author.Rules.{rules}
 use Rattle.object.proofs.words.settle_word.Goals as goal
 
 pub returns-then-word-lt32768 : goal.returns-then-word-lt32768

@@ -1,7 +1,6 @@
 -- `feed_section_end` meets its contract.
 use native.Mathlib.Omega.{arith}
-use borrow.Author.Tests.{not-true, not-false, eq-eqb, ne_eqb}
-use borrow.Author.Rules.{rules}
+use borrow.Author.Tests.{eq-eqb, ne_eqb}
 use Rattle.streaming.specs.Choose.{if◌then◌else◌}
 use Rattle.section.specs.Section.{feed_section_end}
 use Rattle.section.proofs.Bounds.{late_lt}

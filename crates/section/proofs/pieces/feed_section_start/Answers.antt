@@ -1,5 +1,4 @@
 -- `feed_section_start` meets its contract.
-use borrow.Author.Rules.{rules}
 use Rattle.streaming.specs.Choose.{if◌then◌else◌}
 use Rattle.section.specs.Section.{feed_section_start}
 use Rattle.section.proofs.pieces.feed_section_start.Goals as goal

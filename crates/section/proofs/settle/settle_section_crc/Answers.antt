@@ -1,7 +1,6 @@
 -- `settle_section_crc` meets its contract: a fit section ends below 2^32.
 use native.Mathlib.Omega.{arith}
 use borrow.Author.Tests.{eq-eqb, ne_eqb}
-use borrow.Author.Rules.{rules}
 use Rattle.streaming.specs.Choose.{if◌then◌else◌}
 use Rattle.section.specs.Section.{settle_section_crc}
 use Rattle.section.proofs.Bounds.{late_lt}

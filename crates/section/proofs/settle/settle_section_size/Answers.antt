@@ -1,6 +1,5 @@
 -- `settle_section_size` meets its contract.
 use borrow.Author.Tests.{eq-eqb, ne_eqb}
-use borrow.Author.Rules.{rules}
 use Rattle.streaming.specs.Choose.{if◌then◌else◌}
 use Rattle.section.specs.Section.{settle_section_size}
 use Rattle.section.proofs.settle.settle_section_size.Goals as goal
