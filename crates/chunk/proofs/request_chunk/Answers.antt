@@ -1,7 +1,7 @@
 -- `request_chunk` meets its contract.
 use Prim.Native.Nat.{◌<◌, ◌^◌}
 use native.Mathlib.Omega.{arith}
-use Rattle.streaming.specs.Choose.{if◌then◌else◌}
+use Rattle.streaming.specs.Choose.{when◌then◌else◌}
 use Rattle.streaming.proofs.Cases.{cases}
 use Rattle.rules.specs.Header.{map_end}
 use Rattle.header.proofs.Bounds.{map_end_below}
@@ -15,16 +15,16 @@ overflow_add-offset c =
     omega (arith, c.requires.room)
 
 pub returns-then-d-lt2 : goal.returns-then-d-lt2
-unfolding request_chunk chunk_end if◌then◌else◌
+unfolding request_chunk chunk_end when◌then◌else◌
 returns-then-d-lt2 c = search cases
 
 pub returns-then-d-s : goal.returns-then-d-s
-unfolding request_chunk chunk_end if◌then◌else◌
+unfolding request_chunk chunk_end when◌then◌else◌
 returns-then-d-s c = search cases
 
 pub overflow_sub-result-2 : goal.overflow_sub-result-2
 overflow_sub-result-2 c = omega (arith, c.requires.within)
 
 pub returns : goal.returns
-unfolding request_chunk chunk_end if◌then◌else◌
+unfolding request_chunk chunk_end when◌then◌else◌
 returns c = search cases

@@ -6,7 +6,7 @@ use mathlib.Core.Path.{◌≡◌, sym, ap, ◌∙◌}
 use lib.ListN.{take}
 use borrow.Author.Rules.{rules}
 use borrow.Author.Tests.{lt-ltb, le-ltb}
-use Rattle.streaming.specs.Choose.{if◌then◌else◌}
+use Rattle.streaming.specs.Choose.{when◌then◌else◌}
 use Rattle.streaming.specs.declared.ObjectRecord.{ObjectRecord}
 use Rattle.octets.specs.Octets.{little_endian}
 use Rattle.account.specs.Statement.{part}
@@ -34,16 +34,16 @@ module _ (r2000 : Bool) (src : List ℕ) (handle location : ℕ) where
 -- ---- the size, by its words
 module _ (src : List ℕ) (location first : ℕ) (f : first ≡ little_endian (part src location 2)) where
   one_word : first < 0x8000 → size_at src location ≡ sized 2 first
-  unfolding size_of_words if◌then◌else◌
+  unfolding size_of_words when◌then◌else◌
   one_word h = words_at src location ∙ rw (← f, lt-ltb first 0x8000 h)
 
   module _ (second : ℕ) (s : second ≡ little_endian (part src (location + 2) 2)) (h : 0x8000 ≤ first) where
     two_words_lem : second < 0x8000 → size_at src location ≡ sized 4 (first % 0x8000 + 0x8000 * second)
-    unfolding size_of_words if◌then◌else◌
+    unfolding size_of_words when◌then◌else◌
     two_words_lem k = words_at src location ∙ rw (← f, ← s, le-ltb first 0x8000 h, lt-ltb second 0x8000 k)
 
     no_size : 0x8000 ≤ second → size_at src location ≡ unending
-    unfolding size_of_words if◌then◌else◌
+    unfolding size_of_words when◌then◌else◌
     no_size k = words_at src location ∙ rw (← f, ← s, le-ltb first 0x8000 h, le-ltb second 0x8000 k)
 
 returns : tie.Need-returns

@@ -6,7 +6,7 @@ use native.Mathlib.Omega.{arith}
 use lib.ListN.{length}
 use borrow.Author.Rules.{rules}
 use borrow.Author.Tests.{le-leb, lt-leb}
-use Rattle.streaming.specs.Choose.{if◌then◌else◌}
+use Rattle.streaming.specs.Choose.{when◌then◌else◌}
 use Rattle.rules.specs.Map.{chunk_size}
 use Rattle.oneshot.specs.declared.steps.Cursor.{Cursor}
 use Rattle.oneshot.specs.Cursor.{opened_of}
@@ -15,12 +15,12 @@ use Rattle.oneshot.proofs.steps.opened.Tie as tie
 
 module _ (src : List ℕ) (c : Cursor) where
   shut : length src < c.chunk + chunk_size src c.chunk + 2 → c ≡ opened_of src c
-  unfolding opened_of if◌then◌else◌
+  unfolding opened_of when◌then◌else◌
   shut h = rw (lt-leb _ _ h)
 
   opens : (size : ℕ) → size ≡ chunk_size src c.chunk → c.chunk + size + 2 ≤ length src
       → record { r2000 = c.r2000; chunk = c.chunk + size + 2; at = c.chunk + 2; end = c.chunk + size; handle = 0; location = 0 } ≡ opened_of src c
-  unfolding opened_of if◌then◌else◌
+  unfolding opened_of when◌then◌else◌
   opens size e h = rw (← e, le-leb _ _ h)
 
 returns : tie.Need-returns
