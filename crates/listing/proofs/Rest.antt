@@ -8,7 +8,7 @@ use lib.ListN.{length, drop, replicate, length-replicate}
 use lib.Seq.{drop-append_seam}
 use lib.Dec.{leb}
 use borrow.Author.Tests.{leb-true, leb-false, le-leb, lt-leb}
-use Rattle.streaming.specs.Choose.{if◌then◌else◌}
+use Rattle.streaming.specs.Choose.{when◌then◌else◌}
 use Rattle.streaming.specs.declared.FlatHeader.{FlatHeader}
 use Rattle.streaming.specs.declared.ObjectRecord.{ObjectRecord}
 use Rattle.survey.specs.Survey.{listed, survey_of}
@@ -19,7 +19,7 @@ use Rattle.listing.specs.Listing.{mark, is_mark, marked}
 use Rattle.listing.proofs.Marked.{replicate-sum, replicate_cut}
 
 all_marked : (n : ℕ) → marked (replicate n mark) ≡ n
-unfolding marked is_mark if◌then◌else◌
+unfolding marked is_mark when◌then◌else◌
 all_marked zero = refl
 all_marked (suc n) = ap suc (all_marked n)
 
@@ -45,7 +45,7 @@ module _ (w : Walked) (l : List ObjectRecord) (k most : ℕ) (counted : w.count 
       omega (arith, behind, room, fits)
 
   pub rest-marked : (with_room k w).count + marked (drop (with_room k w).count (front_of (replicate k mark) l ++ rest)) ≡ most
-  unfolding with_room front_of if◌then◌else◌
+  unfolding with_room front_of when◌then◌else◌
   rest-marked = split (leb w.count k) refl
     where
       split : (b : Bool) → leb w.count k ≡ b → (with_room k w).count + marked (drop (with_room k w).count (front_of (replicate k mark) l ++ rest)) ≡ most

@@ -1,11 +1,11 @@
 -- `say` meets its contract.
 use mathlib.Core.Path.{refl}
-use Rattle.streaming.specs.Choose.{if◌then◌else◌}
+use Rattle.streaming.specs.Choose.{when◌then◌else◌}
 use Rattle.driving.proofs.said.say.Statement.{statement}
 use Rattle.driving.proofs.said.say.Tie as tie
 
 returns : tie.Need-returns
-unfolding if◌then◌else◌
+unfolding when◌then◌else◌
 returns c = refl
 
 pub say_spec : {M : Type 1} → statement M
