@@ -10,14 +10,6 @@ use Rattle.streaming.specs.Choose.{when◌then◌else◌}
 use Rattle.streaming.specs.declared.ObjectRecord.{ObjectRecord}
 use Rattle.listing.specs.Listing.{is_mark, marked}
 
-pub not_true : (b : Bool) → not b ≡ true → b ≡ false
-not_true true e = sym e
-not_true false e = refl
-
-pub not_false : (b : Bool) → not b ≡ false → b ≡ true
-not_false true e = refl
-not_false false e = sym e
-
 module _ (list : List ObjectRecord) (i : ℕ) (none : ObjectRecord) (within : i < length list) where
   at_place : marked (drop i list) ≡ (when is_mark (get_or list i none) then suc (marked (drop (suc i) list)) else 0)
   unfolding marked
