@@ -1,9 +1,8 @@
 -- `first_other` meets its contract: so far every place holds the mark.
-use Prim.Native.Nat.{suc, ◌+◌, ◌-◌}
+use Prim.Native.Nat.{suc}
 use mathlib.Core.Path.{◌≡◌, refl, sym, ◌∙◌}
 use native.Mathlib.Omega.{arith}
 use native.Mathlib.Numerals.{add-one}
-use borrow.Author.Rules.{rules}
 use lib.ListN.{drop}
 use Rattle.listing.specs.Listing.{marked}
 use Rattle.listing.proofs.Others.{other_stops, mark_goes_on, none_behind}
