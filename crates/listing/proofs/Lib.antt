@@ -1,5 +1,4 @@
 pub mod Main
-pub mod Marked
 pub mod Others
 pub mod Within
 pub mod Rest
