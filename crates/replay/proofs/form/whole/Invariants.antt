@@ -1,0 +1,15 @@
+-- `whole` meets its contract.
+use Prim.Native.Nat.{◌-◌, ◌≤◌}
+use mathlib.Core.Path.{◌≡◌, refl, sym, ap, ◌∙◌}
+use lib.ListN.{length, drop}
+use native.Mathlib.Omega.{arith}
+use borrow.Author.Rules.{rules}
+use Rattle.replay.specs.Form.{size_of, is_whole}
+use Rattle.replay.proofs.Whole.{rest, left_whole, left_past, left_not, left_none}
+use Rattle.replay.proofs.form.whole.Given as goal
+
+abbrev pub invariant-loop-at : goal.invariant-loop-at
+invariant-loop-at l = (l.at ≤ length l.s) × (is_whole (length l.s) l.s ≡ left_whole l.s l.at)
+
+abbrev pub decreases-loop-at : goal.decreases-loop-at
+decreases-loop-at l = length l.s - l.at
