@@ -1,7 +1,6 @@
 -- `answers` meets its contract.
 use Prim.Native.Nat.{◌-◌, ◌≤◌}
 use lib.ListN.{length}
-use borrow.Author.Rules.{rules}
 use Rattle.replay.proofs.answers.Given as goal
 
 abbrev pub invariant-loop-at : goal.invariant-loop-at

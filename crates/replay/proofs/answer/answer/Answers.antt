@@ -4,7 +4,6 @@ use borrow.Author.Tests.{eq-eqb, ne_eqb}
 use Rattle.streaming.specs.Choose.{if◌then◌else◌}
 use Rattle.replay.specs.Answers.{answer_line, hand_after}
 use Rattle.replay.proofs.Operations.{has_letter, has_header, has_state, has_piece}
-use borrow.Author.Rules.{rules}
 use Rattle.replay.proofs.answer.answer.Goals as goal
 
 pub bounds-s-0 : goal.bounds-s-0

@@ -3,7 +3,6 @@ use mathlib.Core.Path.{ap, ◌∙◌}
 use borrow.Author.Tests.{eq-eqb, ne_eqb}
 use Rattle.streaming.specs.Choose.{if◌then◌else◌}
 use Rattle.replay.specs.Answers.{ask_line, asked_line, ended_line, yes_line}
-use borrow.Author.Rules.{rules}
 use Rattle.replay.proofs.answer.ask.Goals as goal
 
 pub returns-then-letter-eq82 : goal.returns-then-letter-eq82

@@ -1,6 +1,5 @@
 -- `feed` meets its contract.
 use Rattle.replay.proofs.Operations.{fed_told}
-use borrow.Author.Rules.{rules}
 use Rattle.replay.proofs.answer.feed.Goals as goal
 
 pub returns : goal.returns

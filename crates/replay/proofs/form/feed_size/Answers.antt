@@ -1,5 +1,4 @@
 -- `feed_size` meets its contract.
-use borrow.Author.Rules.{rules}
 use Rattle.replay.specs.Form.{feed_size}
 use Rattle.replay.proofs.form.feed_size.Goals as goal
 

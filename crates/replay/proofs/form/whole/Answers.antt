@@ -1,11 +1,10 @@
 -- `whole` meets its contract.
-use Prim.Native.Nat.{◌-◌, ◌≤◌}
 use mathlib.Core.Path.{◌≡◌, refl, sym, ap, ◌∙◌}
-use lib.ListN.{length, drop}
+use lib.ListN.{drop}
 use native.Mathlib.Omega.{arith}
 use borrow.Author.Rules.{rules}
-use Rattle.replay.specs.Form.{size_of, is_whole}
-use Rattle.replay.proofs.Whole.{rest, left_whole, left_past, left_not, left_none}
+use Rattle.replay.specs.Form.{size_of}
+use Rattle.replay.proofs.Whole.{rest, left_past, left_not, left_none}
 use Rattle.replay.proofs.form.whole.Goals as goal
 
 pub loop-at-init : goal.loop-at-init

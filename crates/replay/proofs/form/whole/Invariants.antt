@@ -1,11 +1,9 @@
 -- `whole` meets its contract.
 use Prim.Native.Nat.{◌-◌, ◌≤◌}
-use mathlib.Core.Path.{◌≡◌, refl, sym, ap, ◌∙◌}
-use lib.ListN.{length, drop}
-use native.Mathlib.Omega.{arith}
-use borrow.Author.Rules.{rules}
-use Rattle.replay.specs.Form.{size_of, is_whole}
-use Rattle.replay.proofs.Whole.{rest, left_whole, left_past, left_not, left_none}
+use mathlib.Core.Path.{◌≡◌}
+use lib.ListN.{length}
+use Rattle.replay.specs.Form.{is_whole}
+use Rattle.replay.proofs.Whole.{left_whole}
 use Rattle.replay.proofs.form.whole.Given as goal
 
 abbrev pub invariant-loop-at : goal.invariant-loop-at

@@ -1,6 +1,5 @@
 -- `cursor` meets its contract.
 use Rattle.replay.specs.Parse.{cursor_in}
-use borrow.Author.Rules.{rules}
 use Rattle.replay.proofs.parse.cursor.Goals as goal
 
 pub returns : goal.returns

@@ -3,7 +3,6 @@ use mathlib.Core.Path.{refl, ◌∙◌}
 use lib.ListN.{replicate}
 use native.Mathlib.Omega.{arith}
 use Rattle.replay.proofs.Copied.{filled_from}
-use borrow.Author.Rules.{rules}
 use Rattle.replay.proofs.parse.head.Goals as goal
 
 pub returns : goal.returns

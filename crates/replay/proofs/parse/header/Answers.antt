@@ -1,6 +1,5 @@
 -- `header` meets its contract.
 use Rattle.replay.specs.Parse.{header_in}
-use borrow.Author.Rules.{rules}
 use Rattle.replay.proofs.parse.header.Goals as goal
 
 pub returns : goal.returns

@@ -1,7 +1,6 @@
 -- `asked` meets its contract.
 use Rattle.lines.proofs.Laws.{told}
 use Rattle.replay.specs.Answers.{asked_line}
-use borrow.Author.Rules.{rules}
 use Rattle.replay.proofs.said.asked.Goals as goal
 
 pub returns-in-Demand : goal.returns-in-Demand

@@ -1,7 +1,6 @@
 -- `ended` meets its contract.
 use Rattle.lines.proofs.Laws.{told}
 use Rattle.replay.specs.Answers.{ended_line}
-use borrow.Author.Rules.{rules}
 use Rattle.replay.proofs.said.ended.Goals as goal
 
 pub returns-in-Whole : goal.returns-in-Whole

@@ -1,7 +1,6 @@
 -- `fed` meets its contract.
 use Rattle.lines.proofs.Laws.{told}
 use Rattle.replay.specs.Answers.{fed_line}
-use borrow.Author.Rules.{rules}
 use Rattle.replay.proofs.said.fed.Goals as goal
 
 pub returns-in-Step : goal.returns-in-Step

@@ -1,7 +1,6 @@
 -- `started` meets its contract.
 use Rattle.lines.proofs.Laws.{told}
 use Rattle.replay.specs.Answers.{start_line}
-use borrow.Author.Rules.{rules}
 use Rattle.replay.proofs.said.started.Goals as goal
 
 pub returns-in-Begun : goal.returns-in-Begun

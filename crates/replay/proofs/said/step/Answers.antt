@@ -5,7 +5,6 @@ use mathlib.Core.List.{[], ◌∷◌}
 use Rattle.lines.specs.Line.{line_of}
 use Rattle.lines.proofs.Laws.{told}
 use Rattle.replay.specs.Answers.{step_line}
-use borrow.Author.Rules.{rules}
 use Rattle.replay.proofs.said.step.Goals as goal
 
 pub returns-in-Framing : goal.returns-in-Framing

@@ -1,7 +1,6 @@
 -- `yes` meets its contract.
 use Rattle.lines.proofs.Laws.{told}
 use Rattle.replay.specs.Answers.{yes_line}
-use borrow.Author.Rules.{rules}
 use Rattle.replay.proofs.said.yes.Goals as goal
 
 pub returns-then-b : goal.returns-then-b
