@@ -20,7 +20,7 @@ use Rattle.streaming.specs.declared.Asked.TheVariants as asked
 use Rattle.streaming.specs.declared.Stage.TheVariants as stage
 use Rattle.streaming.specs.declared.Failure.TheVariants as failure
 use Rattle.streaming.specs.declared.FlatWalker.{FlatWalker}
-use Rattle.account.specs.Account.{Account, over, demand, framing}
+use Rattle.account.specs.Account.{Account, demand, framing}
 use Rattle.account.specs.Asking.{Turn, go, span, passing}
 use Rattle.account.specs.Statement.{part}
 use Rattle.account.proofs.Parts.{length_part}

@@ -1,8 +1,7 @@
 -- A front of a list of records has no more objects than the list.
-use Prim.Native.Nat.{ℕ, ◌+◌, ◌≤◌}
+use Prim.Native.Nat.{◌+◌, ◌≤◌}
 use mathlib.Core.List.{List, [], ◌∷◌, ◌++◌}
-use mathlib.Core.Path.{◌≡◌, refl, ap, ◌∙◌}
-use native.Mathlib.Nat.{zero-add, suc-add}
+use mathlib.Core.Path.{◌≡◌, ap}
 use native.Mathlib.Omega.{arith}
 use Rattle.streaming.specs.Record.{Record, section, object, objects_in}
 use Rattle.account.specs.Runs.{Front}

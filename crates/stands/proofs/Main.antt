@@ -2,19 +2,18 @@
 -- `end_of_input` cite, for every header that Start takes, every source of its length and every list of calls: accepted pieces carry the source's
 -- bytes at the place asked, cuts are free, and refused calls may fall anywhere.
 use Prim.Native.Nat.{ℕ, ◌+◌, ◌*◌, ◌/◌, ◌≤◌}
-use mathlib.Core.List.{List, [], ◌++◌}
+use mathlib.Core.List.{List, []}
 use mathlib.Core.Logic.{◌⊎◌}
-use mathlib.Core.Path.{◌≡◌, sym, ap, ◌∙◌}
+use mathlib.Core.Path.{◌≡◌, ap, ◌∙◌}
 use native.Mathlib.Omega.{arith}
 use lib.ListN.{length}
 use Rattle.streaming.specs.Choose.{if◌then◌else◌}
 use Rattle.streaming.specs.Record.{objects_in, committed_in}
 use Rattle.streaming.specs.declared.FlatHeader.{FlatHeader}
-use Rattle.streaming.specs.declared.FlatWalker.{FlatWalker}
 use Rattle.streaming.specs.declared.Fault.{Fault}
-use Rattle.account.specs.Account.{records_in, ending_of, says_at, broken}
+use Rattle.account.specs.Account.{records_in, says_at, broken}
 use Rattle.account.specs.Statement.{Call, takes, Walker, HonestCall, Honest, Meets}
-use Rattle.account.specs.Runs.{run, bytes, committed, accepted, Past, Whole, Front, Repeats, Alike}
+use Rattle.account.specs.Runs.{run, bytes, committed, Past, Whole, Front, Repeats, Alike}
 use Rattle.account.proofs.Main as A
 use Rattle.rules.specs.Source.{Of}
 use Rattle.rules.specs.Header.{locator_of, map_size}

@@ -12,7 +12,6 @@ use lib.Dec.{leb, eqb}
 use borrow.Author.Tests.{eqb-true, eqb-false}
 use Rattle.crc.specs.Crc.{crc_of}
 use Rattle.octets.specs.Octets.{little_endian}
-use Rattle.streaming.specs.Choose.{if◌then◌else◌}
 use Rattle.streaming.specs.Numbers.{part_number}
 use Rattle.streaming.specs.State.{in_unit}
 use Rattle.streaming.specs.declared.Fault.TheVariants as fault
