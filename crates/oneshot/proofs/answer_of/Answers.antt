@@ -1,5 +1,4 @@
 -- `answer_of` meets its contract.
-use borrow.Author.Rules.{rules}
 use Rattle.oneshot.proofs.answer_of.Goals as goal
 
 pub returns : goal.returns

@@ -1,5 +1,4 @@
 -- `first_of` meets its contract.
-use borrow.Author.Rules.{rules}
 use Rattle.oneshot.proofs.first_of.Goals as goal
 
 pub returns : goal.returns

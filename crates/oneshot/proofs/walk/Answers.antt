@@ -1,15 +1,11 @@
 -- `walk` meets its contract: the loop overwrites the list by the records of its steps, and these are the rules' objects.
-use Prim.Native.Nat.{◌+◌, ◌≤◌, ◌<◌, ◌^◌}
-use mathlib.Core.Path.{◌≡◌, refl, sym, ap, ◌∙◌}
-use mathlib.Core.List.{List}
-use lib.ListN.{length, set}
+use mathlib.Core.Path.{◌≡◌, refl, ap, ◌∙◌}
+use lib.ListN.{length}
 use native.Mathlib.Numerals.{add-one}
 use native.Mathlib.Omega.{arith}
-use Rattle.streaming.specs.declared.ObjectRecord.{ObjectRecord}
 use Rattle.survey.specs.Survey.{survey_of}
 use Rattle.survey.specs.declared.Walked.{Walked}
 use Rattle.oneshot.specs.Cursor.{first_cursor, step_of, cursor_at}
-use Rattle.oneshot.specs.declared.steps.Cursor.{Cursor}
 use Rattle.oneshot.specs.OneShot.{with_room}
 use Rattle.oneshot.proofs.Near.{near}
 use Rattle.oneshot.proofs.Filling.{count_fits, filled}

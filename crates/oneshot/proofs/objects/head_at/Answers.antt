@@ -5,7 +5,6 @@ use mathlib.Core.List.{List}
 use mathlib.Core.Path.{◌≡◌, sym, ap, ◌∙◌}
 use native.Mathlib.Omega.{arith}
 use lib.ListN.{length, take}
-use borrow.Author.Rules.{rules}
 use Rattle.account.specs.Statement.{part}
 use Rattle.rules.specs.Prologue.{prologue_of}
 use Rattle.records.specs.Answer.{of_r2000, head_of}

@@ -1,6 +1,5 @@
 -- `record_of_head` meets its contract.
 use mathlib.Core.Path.{sym, ap}
-use borrow.Author.Rules.{rules}
 use Rattle.oneshot.specs.Cursor.{record_of_head}
 use Rattle.oneshot.proofs.objects.record_of_head.Goals as goal
 

@@ -1,6 +1,5 @@
 -- `in_hand` meets its contract.
 use borrow.Author.Tests.{eq-eqb, ne_eqb}
-use borrow.Author.Rules.{rules}
 use Rattle.streaming.specs.Choose.{when◌then◌else◌}
 use Rattle.oneshot.specs.Cursor.{in_hand}
 use Rattle.oneshot.proofs.steps.in_hand.Goals as goal

@@ -10,17 +10,12 @@ use Rattle.survey.specs.declared.Walked.{Walked}
 use Rattle.oneshot.specs.OneShot.{with_room}
 use Rattle.listing.specs.Listing.{most_places, list_after_lent}
 use Rattle.walk_speed.specs.Sums.{last_size, last_of}
-use Rattle.walk_speed.proofs.fill_once.Statement.{statement}
-use Rattle.walk_speed.proofs.fill_once.Tie as tie
+use Rattle.walk_speed.proofs.fill_once.Goals as goal
 
 last-is : (h given : FlatHeader) (src : List ℕ) (w : Walked) (list : List ObjectRecord) → w ≡ with_room most_places (survey_of h src) → list ≡ list_after_lent h src most_places → h ≡ given
     → last_size list w.count ≡ last_of given src
 last-is h given src w list e l same = (λ i. last_size (l i) (e i).count) ∙ ap (λ (z : FlatHeader). last_of z src) same
 
-returns : tie.Need-returns
+pub returns : goal.returns
 returns c =
-    let f = c.before.before.before in
-    c.«last-size».ensures ∙ last-is _ _ _ _ _ f.fill.ensures.0 f.fill.ensures.1 f.before.header.ensures
-
-pub fill_once_spec : {M : Type 1} → statement M
-fill_once_spec = tie.close (tie.spec (search rules) (search rules) (search rules) returns)
+    c.last_size.ensures ∙ last-is _ _ _ _ _ c.fill-listed.ensures.0 c.fill-listed.ensures.1 c.header-h.ensures
