@@ -1,0 +1,14 @@
+-- `cut_to` meets its contract.
+use borrow.Author.Rules.{rules}
+use Rattle.streaming.specs.Choose.{if◌then◌else◌}
+use Rattle.streaming.proofs.Cases.{cases}
+use Rattle.driving.specs.Pieces.{cut_to}
+use Rattle.driving.proofs.pieces.cut_to.Goals as goal
+
+pub returns-then-cuts-eq0 : goal.returns-then-cuts-eq0
+unfolding cut_to if◌then◌else◌
+returns-then-cuts-eq0 c = search cases
+
+pub returns : goal.returns
+unfolding cut_to if◌then◌else◌
+returns c = search cases

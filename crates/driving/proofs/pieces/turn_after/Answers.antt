@@ -1,0 +1,14 @@
+-- `turn_after` meets its contract.
+use borrow.Author.Rules.{rules}
+use Rattle.streaming.specs.Choose.{if◌then◌else◌}
+use Rattle.streaming.proofs.Cases.{cases}
+use Rattle.driving.specs.Pieces.{turn_after}
+use Rattle.driving.proofs.pieces.turn_after.Goals as goal
+
+pub returns-then-turn-cuts : goal.returns-then-turn-cuts
+unfolding turn_after if◌then◌else◌
+returns-then-turn-cuts c = search cases
+
+pub returns : goal.returns
+unfolding turn_after if◌then◌else◌
+returns c = search cases

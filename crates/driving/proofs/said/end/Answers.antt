@@ -1,0 +1,6 @@
+-- `end` meets its contract.
+use borrow.Author.Rules.{rules}
+use Rattle.driving.proofs.said.end.Goals as goal
+
+pub returns : goal.returns
+returns c = rw (← c.ending-n.ensures)
