@@ -1,5 +1,4 @@
 -- `size` meets its contract.
-use borrow.Author.Rules.{rules}
 use Rattle.drive_cases.specs.Cases.{case_size}
 use Rattle.drive_cases.proofs.size.Goals as goal
 

@@ -1,5 +1,4 @@
 -- `begin` meets its contract.
-use borrow.Author.Rules.{rules}
 use Rattle.driving.proofs.Driven.{walkable}
 use Rattle.driving.proofs.begin.Goals as goal
 

@@ -1,6 +1,5 @@
 -- `take` meets its contract.
 use mathlib.Core.Path.{ap}
-use borrow.Author.Rules.{rules}
 use Rattle.streaming.specs.declared.Fed.{Fed}
 use Rattle.driving.proofs.Driven.{fed_part, counted-part}
 use Rattle.driving.proofs.take.Goals as goal

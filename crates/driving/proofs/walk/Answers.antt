@@ -1,10 +1,7 @@
 -- `walk` meets its contract. The invariant: the state in hand is that of the driver's calls so far over this source, whose tally is kept. The measure:
 -- the bytes that the rules still allow.
-use Prim.Native.Nat.{◌-◌}
 use mathlib.Core.Path.{◌∙◌}
-use borrow.Author.Rules.{rules}
-use Rattle.driving.specs.Ran.{most_bytes, Ran}
-use Rattle.driving.proofs.Chosen.{Turning, turning_first, turning_after}
+use Rattle.driving.proofs.Chosen.{turning_first, turning_after}
 use Rattle.driving.proofs.Runs.{none_yet, one_more, nearer, ran_whole}
 use Rattle.driving.proofs.Driven.{next_found, piece_chosen, piece_next, all_past}
 use Rattle.driving.proofs.walk.Goals as goal

@@ -1,5 +1,4 @@
 -- `choose` meets its contract.
-use borrow.Author.Rules.{rules}
 use Rattle.driving.proofs.Driven.{a_piece, no_piece}
 use Rattle.driving.proofs.pieces.choose.Goals as goal
 

@@ -1,5 +1,4 @@
 -- `turn_after` meets its contract.
-use borrow.Author.Rules.{rules}
 use Rattle.streaming.specs.Choose.{if◌then◌else◌}
 use Rattle.streaming.proofs.Cases.{cases}
 use Rattle.driving.specs.Pieces.{turn_after}

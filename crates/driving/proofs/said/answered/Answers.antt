@@ -1,5 +1,4 @@
 -- `answered` meets its contract.
-use borrow.Author.Rules.{rules}
 use Rattle.lines.proofs.Laws.{told}
 use Rattle.driving.specs.Said.{answer_text}
 use Rattle.driving.proofs.said.answered.Goals as goal

@@ -1,5 +1,4 @@
 -- `end` meets its contract.
-use borrow.Author.Rules.{rules}
 use Rattle.driving.proofs.said.end.Goals as goal
 
 pub returns : goal.returns

@@ -1,5 +1,4 @@
 -- `silence` meets its contract.
-use borrow.Author.Rules.{rules}
 use mathlib.Core.Path.{refl}
 use Rattle.streaming.specs.Choose.{if◌then◌else◌}
 use Rattle.driving.proofs.said.silence.Goals as goal

@@ -1,6 +1,5 @@
 -- `step` meets its contract.
 use mathlib.Core.Path.{◌∙◌}
-use borrow.Author.Rules.{rules}
 use Rattle.lines.proofs.Laws.{told}
 use Rattle.driving.specs.Said.{step_text}
 use Rattle.driving.proofs.said.step.Goals as goal

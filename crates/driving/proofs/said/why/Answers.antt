@@ -1,6 +1,5 @@
 -- `why` meets its contract.
 use mathlib.Core.Path.{◌∙◌}
-use borrow.Author.Rules.{rules}
 use Rattle.lines.proofs.Laws.{told}
 use Rattle.driving.specs.Said.{why_text}
 use Rattle.driving.proofs.said.why.Goals as goal
