@@ -72,13 +72,7 @@ fn take(source: &[u8], s: FlatWalker, t: Tally, offset: u64, len: u64) -> Taken
 }
 
 // Walks the source piece by piece, and prints the records as they are committed. The bytes that the rules allow are what ends it.
-fn walk(
-    rt: &impl Print,
-    source: &[u8],
-    h: FlatHeader,
-    cuts: Cuts,
-    begun: FlatWalker,
-) -> Walked
+fn walk(rt: &impl Print, source: &[u8], h: FlatHeader, cuts: Cuts, begun: FlatWalker) -> Walked
     requires { Walkable h source.now cuts × (begun ≡ (start_of h).state) }
     ensures { RanWhole h source.now cuts result.ending result.tally }
 {

@@ -1,7 +1,6 @@
 -- `at_fault` meets its contract.
 use native.Mathlib.Omega.{arith}
 use Rattle.tally.proofs.Laws.{Fits, by_held, untaken}
-use borrow.Author.Rules.{rules}
 use Rattle.tally.proofs.at_fault.Goals as goal
 
 pub returns-in-None : goal.returns-in-None

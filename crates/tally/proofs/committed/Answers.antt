@@ -6,7 +6,6 @@ use mathlib.Core.List.{[], ◌∷◌}
 use Rattle.tally.specs.History.{as_framing}
 use Rattle.tally.specs.Tally.{capped}
 use Rattle.tally.proofs.Laws.{stays, last_moves, by_field}
-use borrow.Author.Rules.{rules}
 use Rattle.tally.proofs.committed.Goals as goal
 
 pub returns : goal.returns

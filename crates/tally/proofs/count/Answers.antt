@@ -2,7 +2,6 @@
 use Rattle.tally.specs.History.{heard, handles_of}
 use Rattle.tally.proofs.Laws.{by_answer}
 use Rattle.tally.proofs.Kept.{continues}
-use borrow.Author.Rules.{rules}
 use Rattle.tally.proofs.count.Goals as goal
 
 pub returns-in-Step : goal.returns-in-Step

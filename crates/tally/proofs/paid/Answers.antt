@@ -3,7 +3,6 @@ use native.Mathlib.Omega.{arith}
 use mathlib.Core.List.{[]}
 use Rattle.tally.specs.History.{as_payload}
 use Rattle.tally.proofs.Laws.{stays, repeats_stay, last_stays, by_field}
-use borrow.Author.Rules.{rules}
 use Rattle.tally.proofs.paid.Goals as goal
 
 pub returns : goal.returns

@@ -10,7 +10,6 @@ use Rattle.tally.specs.declared.Tally.{Tally}
 use Rattle.tally.specs.History.{Taken, not_taken, refusal_takes}
 use Rattle.tally.specs.Tally.{behind}
 use Rattle.tally.proofs.Laws.{Fits, by_refusal, untaken}
-use borrow.Author.Rules.{rules}
 use Rattle.tally.proofs.refused.Goals as goal
 
 gives_back : (t : Tally) (held : Failure) (n : ℕ) (e e' : StreamError) → Fits t → e ≡ e' → refusal_takes held e' ≡ not_taken

@@ -6,7 +6,6 @@ use Rattle.streaming.proofs.Cases.{cases}
 use Rattle.tally.specs.declared.Last.{Last}
 use Rattle.tally.specs.History.{repeats}
 use Rattle.tally.specs.Tally.{known}
-use borrow.Author.Rules.{rules}
 use Rattle.tally.proofs.repeated.Goals as goal
 
 pub returns-then-before-handle : goal.returns-then-before-handle

@@ -1,7 +1,6 @@
 -- `stepped` meets its contract.
 use Rattle.tally.specs.History.{handles_of}
 use Rattle.tally.proofs.Laws.{by_step}
-use borrow.Author.Rules.{rules}
 use Rattle.tally.proofs.stepped.Goals as goal
 
 pub returns-in-Framing : goal.returns-in-Framing
