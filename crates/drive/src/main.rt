@@ -1,8 +1,11 @@
 // Document 01's driver: reads one input in the form of crate `form`, walks its source and prints what it finds.
 #![tactic(auto)]
 
-fn main() {
-    let mut input = io::large_buffer();
-    let n = io::read_full(0, &mut input);
-    driving::drive(&input[..n]);
+use std::io;
+use std::io::Read;
+
+fn main(rt: HostRuntime) -> io::Result<()> {
+    let mut input = Vec::new(rt.alloc());
+    rt.reader().take(65536).read_to_end(&mut input)?;
+    driving::drive(&rt, &input)
 }

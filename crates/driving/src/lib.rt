@@ -12,6 +12,8 @@ ghost use Rattle.driving.specs.Ran.{RanWhole, Walkable};
 use form::Cuts;
 use pieces::Next;
 use said::Saying;
+use std::io;
+use std::io::Write;
 use streaming::{Answer, Ended, FlatHeader, FlatWalker, Start};
 use tally::Tally;
 
@@ -26,24 +28,26 @@ struct Taken {
     tally: Tally,
 }
 
-// What a walk came to.
+// What a walk came to, and whether its lines could be written. A line that could not be written stops no walk.
 #[derive(Clone, Copy)]
 struct Walked {
     ending: Ended,
     tally: Tally,
+    written: io::Result<()>,
 }
 
-fn print(line: lines::Line) {
+fn print(rt: &impl Print, line: lines::Line) -> io::Result<()> {
     let mut out = [0u8; 160];
     let n = lines::put(line, &mut out);
-    io::write_all(1, &out[..n]);
+    io::writer(rt).write_all(&out[..n])
 }
 
-fn say(s: Saying) {
+fn say(rt: &impl Print, s: Saying) -> io::Result<()> {
     if s.said {
         let line = s.line;
-        print(line);
+        return print(rt, line);
     }
+    Ok(())
 }
 
 // Feeds the source's bytes at a place, and counts them.
@@ -68,24 +72,29 @@ fn take(source: &[u8], s: FlatWalker, t: Tally, offset: u64, len: u64) -> Taken
 }
 
 // Walks the source piece by piece, and prints the records as they are committed. The bytes that the rules allow are what ends it.
-fn walk(source: &[u8], h: FlatHeader, cuts: Cuts, begun: FlatWalker) -> Walked
+fn walk(rt: &impl Print, source: &[u8], h: FlatHeader, cuts: Cuts, begun: FlatWalker) -> Walked
     requires { Walkable h source.now cuts × (begun ≡ (start_of h).state) }
     ensures { RanWhole h source.now cuts result.ending result.tally }
 {
     let mut state = begun;
     let mut tally = tally::blank();
     let mut turn = 0;
+    let mut written = Ok(());
     loop {
         let next = pieces::choose(flat::request(state), h.length, cuts, turn);
         match next {
             Next::Over => {
                 let ending = flat::end_of_input(state);
-                return Walked { ending, tally };
+                return Walked {
+                    ending,
+                    tally,
+                    written,
+                };
             }
             Next::Piece { offset, len } => {
                 let taken = take(source, state, tally, offset, len);
                 let answer = taken.answer;
-                say(said::answered(answer));
+                written = written.and(say(rt, said::answered(answer)));
                 state = taken.state;
                 tally = taken.tally;
                 turn = pieces::turn_after(cuts, turn);
@@ -94,38 +103,41 @@ fn walk(source: &[u8], h: FlatHeader, cuts: Cuts, begun: FlatWalker) -> Walked
     }
 }
 
-fn finish(ending: Ended, tally: Tally) {
-    say(said::why(ending));
-    print(said::end(ending, tally));
+fn finish(rt: &impl Print, ending: Ended, tally: Tally) -> io::Result<()> {
+    let why = say(rt, said::why(ending));
+    let end = print(rt, said::end(ending, tally));
+    why.and(end)
 }
 
 // Start's refusals come before any byte.
-fn begin(source: &[u8], h: FlatHeader, cuts: Cuts)
+fn begin(rt: &impl Print, source: &[u8], h: FlatHeader, cuts: Cuts) -> io::Result<()>
     requires { (length source.now ≡ h.length) × (length source.now ≤ 60000) × Cutting cuts }
 {
     let begun = flat::start(h);
     let answer = begun.answer;
     match answer {
-        Start::Refused(e) => finish(Ended::Refused(e), tally::blank()),
+        Start::Refused(e) => finish(rt, Ended::Refused(e), tally::blank()),
         Start::Begun => {
             let state = begun.state;
-            let walked = walk(source, h, cuts, state);
+            let walked = walk(rt, source, h, cuts, state);
             let ending = walked.ending;
             let tally = walked.tally;
-            finish(ending, tally);
+            let written = walked.written;
+            let end = finish(rt, ending, tally);
+            written.and(end)
         }
     }
 }
 
-// Prints what document 01's driver prints for an input: `I` alone where it is not in the form.
-pub fn drive(input: &[u8]) {
+// Prints what document 01's driver prints for an input: `I` alone where it is not in the form. An error is that of a line that could not be written; the
+// lines behind it were tried all the same.
+pub fn drive(rt: &impl Print, input: &[u8]) -> io::Result<()> {
     let f = form::read(input);
     if f.good {
         let at = f.source;
         let h = f.header;
         let cuts = f.cuts;
-        begin(&input[at..], h, cuts);
-        return;
+        return begin(rt, &input[at..], h, cuts);
     }
-    io::write_all(1, b"I\n");
+    println!(rt; "I")
 }

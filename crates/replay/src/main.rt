@@ -6,34 +6,37 @@ mod form;
 mod parse;
 mod said;
 
-fn print(line: lines::Line) {
+use std::io;
+use std::io::{Read, Write};
+
+fn print(rt: &impl Print, line: lines::Line) -> io::Result<()> {
     let mut out = [0u8; 160];
     let n = lines::put(line, &mut out);
-    io::write_all(1, &out[..n]);
+    io::writer(rt).write_all(&out[..n])
 }
 
-fn answers(s: &[u8]) {
+fn answers(rt: &impl Print, s: &[u8]) -> io::Result<()> {
     let mut hand = answer::empty_hand();
     let mut at = 0;
     while at < s.len() {
         let n = form::size(&s[at..]);
         if n == 0 {
-            return;
+            return Ok(());
         }
         let done = answer::answer(hand, &s[at..]);
         let line = done.line;
-        print(line);
+        print(rt, line)?;
         hand = done.hand;
         at += n;
     }
+    Ok(())
 }
 
-fn main() {
-    let mut input = io::large_buffer();
-    let n = io::read_full(0, &mut input);
-    if (n <= 60000) & form::whole(&input[..n]) {
-        answers(&input[..n]);
-        return;
+fn main(rt: HostRuntime) -> io::Result<()> {
+    let mut input = Vec::new(rt.alloc());
+    rt.reader().take(65536).read_to_end(&mut input)?;
+    if (input.len() <= 60000) && form::whole(&input) {
+        return answers(&rt, &input);
     }
-    io::write_all(1, b"I\n");
+    println!(rt; "I")
 }

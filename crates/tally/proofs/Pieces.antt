@@ -8,7 +8,6 @@ use native.Mathlib.Nat.{zero-add, suc-add, add-zero}
 use lib.ListN.{length}
 use Rattle.streaming.specs.Choose.{when◌then◌else◌}
 use Rattle.streaming.specs.Record.{committed_in}
-use Rattle.streaming.specs.declared.Step.{Step}
 use Rattle.streaming.specs.declared.Step.TheVariants as step
 use Rattle.streaming.specs.declared.StreamError.{StreamError}
 use Rattle.streaming.specs.declared.StreamError.TheVariants as error
@@ -46,7 +45,8 @@ within_more (suc n) (suc k) (over q) = rw suc-add
 pub hand_more : (taken n k : ℕ) (a : Account) → rules.payload_in_hand (rules.payload_in_hand taken n a) k (passed n a) ≡ rules.payload_in_hand taken (n + k) a
 unfolding rules.payload_in_hand
 hand_more taken zero k a = rw zero-add
-hand_more taken (suc n) k (ask at left says rest) = rw suc-add (hand_more _ n k rest)
+hand_more taken (suc n) k (ask at left says rest) =
+    rw suc-add (hand_more (kept_behind (committed_in says) (taken + payload_byte says)) n k rest)
 hand_more taken (suc n) zero (over q) = rw suc-add
 hand_more taken (suc n) (suc k) (over q) = rw suc-add
 
