@@ -5,7 +5,7 @@ use mathlib.Core.List.{List, [], ◌∷◌}
 use mathlib.Core.Path.{◌≡◌, refl, sym, ap, ◌∙◌, subst}
 use native.Mathlib.Omega.{arith}
 use lib.ListN.{length}
-use Rattle.streaming.specs.Choose.{if◌then◌else◌}
+use Rattle.streaming.specs.Choose.{when◌then◌else◌}
 use Rattle.streaming.specs.declared.Fault.{Fault}
 use Rattle.streaming.specs.declared.Answer.{Answer}
 use Rattle.streaming.specs.declared.Answer.TheVariants as answer
@@ -58,7 +58,7 @@ some_pieced (b ∷ bs) t at left e h k o = pieced (length bs) t at left e k (par
 module _ {H : Type 0} (W : Walker H) {src : List ℕ} where
   first_call : (c : Call) (cs : List Call) (st : W.State) {a : Account} → Tidy src a → Does W src st a → HonestCall W src st c
       → Bounded W (after a c) (W.feed st c).1 cs → Bounded W a st (c ∷ cs)
-  unfolding if◌then◌else◌ after
+  unfolding when◌then◌else◌ after
   first_call c cs st {a} t d h z = split (takes (W.request st) c) refl
     where
       q : W.request st ≡ ask_of a

@@ -7,7 +7,7 @@ use native.Mathlib.Omega.{arith}
 use lib.ListN.{length}
 use lib.Dec.{ltb, eqb}
 use borrow.Author.Tests.{ltb-true, leb-true, eqb-true}
-use Rattle.streaming.specs.Choose.{if◌then◌else◌}
+use Rattle.streaming.specs.Choose.{when◌then◌else◌}
 use Rattle.streaming.specs.Record.{committed_in}
 use Rattle.streaming.specs.declared.Asked.{Asked}
 use Rattle.streaming.specs.declared.Asked.TheVariants as asked
@@ -43,27 +43,27 @@ taken (asked.Refused e') c e = absurd (false≢true e)
 
 -- how many bytes a call takes
 abbrev pub taking : Asked → Call → ℕ
-taking q c = if takes q c then length c.piece else 0
+taking q c = when takes q c then length c.piece else 0
 
 -- ---- after
 
 pub after-passed : (a : Account) (c : Call) → after a c ≡ passed (taking (ask_of a) c) a
-unfolding after if◌then◌else◌
+unfolding after when◌then◌else◌
 after-passed a c = both (takes (ask_of a) c)
   where
-    both : (b : Bool) → (if b then passed (length c.piece) a else a) ≡ passed (if b then length c.piece else 0) a
+    both : (b : Bool) → (when b then passed (length c.piece) a else a) ≡ passed (when b then length c.piece else 0) a
     both true = refl
     both false = refl
 
 -- a call that is not taken leaves the account as it is
 pub after-refused : (a : Account) (c : Call) → takes (ask_of a) c ≡ false → after a c ≡ a
-unfolding after if◌then◌else◌
+unfolding after when◌then◌else◌
 after-refused a c e = rw e
 
 -- ---- answer_of
 
 pub answer-refused : (a : Account) (c : Call) → takes (ask_of a) c ≡ false → answer_of a c ≡ answer.Refused (refusal (ask_of a) c)
-unfolding answer_of if◌then◌else◌
+unfolding answer_of when◌then◌else◌
 answer-refused a c e = rw e
 
 some_commits : (p : List ℕ) {src : List ℕ} {a : Account} → Tidy src a → (at left : ℕ) → ask_of a ≡ demand at left → 0 < length p → length p ≤ left
@@ -73,7 +73,7 @@ some_commits (b ∷ bs) t at left e h l = last_commits (length bs) t at left e l
 
 -- a call commits what its bytes do
 pub answer_commits : {src : List ℕ} {a : Account} → Tidy src a → (c : Call) → committed_in (answer_of a c) ≡ records_within (taking (ask_of a) c) a
-unfolding answer_of if◌then◌else◌ records_within
+unfolding answer_of when◌then◌else◌ records_within
 answer_commits {a = a} t c = split (takes (ask_of a) c) refl
   where
     split : (b : Bool) → takes (ask_of a) c ≡ b → committed_in (answer_of a c) ≡ records_within (taking (ask_of a) c) a
@@ -82,12 +82,12 @@ answer_commits {a = a} t c = split (takes (ask_of a) c) refl
 
 -- and that is what its last byte does
 pub answer-last : (n : ℕ) (a : Account) (c : Call)
-    → committed_in (answer_of (passed n a) c) ≡ if takes (ask_of (passed n a)) c then committed_in (says_at (n + length c.piece) a) else []
-unfolding answer_of if◌then◌else◌
+    → committed_in (answer_of (passed n a) c) ≡ when takes (ask_of (passed n a)) c then committed_in (says_at (n + length c.piece) a) else []
+unfolding answer_of when◌then◌else◌
 answer-last n a c = split (takes (ask_of (passed n a)) c) refl
   where
     split : (b : Bool) → takes (ask_of (passed n a)) c ≡ b
-        → committed_in (answer_of (passed n a) c) ≡ if takes (ask_of (passed n a)) c then committed_in (says_at (n + length c.piece) a) else []
+        → committed_in (answer_of (passed n a) c) ≡ when takes (ask_of (passed n a)) c then committed_in (says_at (n + length c.piece) a) else []
     split false e = rw e
     split true e = rw e (ap committed_in (says_at_lem n (length c.piece) a (taken (ask_of (passed n a)) c e).some))
 

@@ -8,7 +8,7 @@ use native.Mathlib.Nat.{add-zero, zero-add, suc-add}
 use lib.ListN.{length, get_or, take, drop}
 use lib.Dec.{eqb}
 use borrow.Author.Tests.{lt-ltb, eq-eqb, ne_eqb, eqb-true, eqb-false}
-use Rattle.streaming.specs.Choose.{if◌then◌else◌}
+use Rattle.streaming.specs.Choose.{when◌then◌else◌}
 use Rattle.streaming.specs.declared.Fault.{Fault}
 use Rattle.streaming.specs.declared.Answer.{Answer}
 use Rattle.account.specs.Account.{Account, ask, over, framing, faulted, broken, passed, says_at}
@@ -21,7 +21,7 @@ module _ (src : List ℕ) where
 
   module _ (plain : Answer) (t : Turn) where
     span_cons : (at m : ℕ) → at < length src → span src at (suc m) plain t ≡ ask at (suc m) (says_before m plain t) (span src (suc at) m plain t)
-    unfolding span if◌then◌else◌
+    unfolding span when◌then◌else◌
     span_cons at m h = rw (lt-ltb at (length src) h)
 
     pub span-passed : (k m at : ℕ) → k ≤ m → at + k ≤ length src → passed k (span src at m plain t) ≡ span src (at + k) (m - k) plain t
@@ -45,7 +45,7 @@ module _ (src : List ℕ) where
   -- ---- demands of one byte
 
   pub one_cons : (at m : ℕ) (t : Turn) → at < length src → one_by_one src at (suc m) t ≡ ask at 1 (says_before m framing t) (one_by_one src (suc at) m t)
-  unfolding one_by_one if◌then◌else◌
+  unfolding one_by_one when◌then◌else◌
   one_cons at m t h = rw (lt-ltb at (length src) h)
 
   -- one of them alone
@@ -71,12 +71,12 @@ module _ (src : List ℕ) where
   module _ (f : Fault) (t : Turn) where
     spell_cons : (at w : ℕ) (ws : List ℕ) → at < length src → get_or src at 0 ≡ w
         → spell src at (w ∷ ws) f t ≡ ask at (suc (length ws)) (says_before (length ws) framing t) (spell src (suc at) ws f t)
-    unfolding spell if◌then◌else◌
+    unfolding spell when◌then◌else◌
     spell_cons at w ws h e = rw (eq-eqb (get_or src at 0) w e, lt-ltb at (length src) h)
 
     spell-torn : (at w : ℕ) (ws : List ℕ) → at < length src → (get_or src at 0 ≡ w → ⊥)
         → spell src at (w ∷ ws) f t ≡ ask at (suc (length ws)) (faulted f) (over (broken f))
-    unfolding spell if◌then◌else◌
+    unfolding spell when◌then◌else◌
     spell-torn at w ws h e = rw (ne_eqb (get_or src at 0) w e, lt-ltb at (length src) h)
 
     -- the source has them as far as a piece goes

@@ -8,7 +8,7 @@ use native.Mathlib.Omega.{arith}
 use native.Mathlib.Nat.{zero-add}
 use lib.ListN.{length, get_or}
 use lib.Dec.{ltb, eqb}
-use Rattle.streaming.specs.Choose.{if◌then◌else◌}
+use Rattle.streaming.specs.Choose.{when◌then◌else◌}
 use Rattle.streaming.specs.declared.ObjectRecord.{ObjectRecord}
 use Rattle.streaming.specs.declared.Step.TheVariants as step
 use Rattle.streaming.specs.declared.Fault.{Fault}
@@ -41,7 +41,7 @@ abbrev pub found : ℕ → ObjectRecord
 found b = record { handle = 0; offset = 2; size = b; type_code = 0 }
 
 abbrev pub number_turn : (limit b : ℕ) → Turn
-number_turn limit b = if ltb b limit then go (answer.Step (step.Object (found b))) (over asked.Nothing) else bad large
+number_turn limit b = when ltb b limit then go (answer.Step (step.Object (found b))) (over asked.Nothing) else bad large
 
 abbrev pub rules : (limit : ℕ) → List ℕ → Account
 rules limit src = spell src 0 given other (go framing (span src 2 1 framing (number_turn limit (get_or src 2 0))))
@@ -69,11 +69,11 @@ request_of (failed f) = broken f
 
 -- by whether the piece has the given bytes
 abbrev pub feed_given : (limit done : ℕ) (p : List ℕ) → (p ≡ part given done (length p)) ⊎ (p ≡ part given done (length p) → ⊥) → Answer × State
-feed_given limit done p (inl e) = if eqb (done + length p) 2 then (framing, number limit) else (framing, giving limit (done + length p))
+feed_given limit done p (inl e) = when eqb (done + length p) 2 then (framing, number limit) else (framing, giving limit (done + length p))
 feed_given limit done p (inr e) = (faulted other, failed other)
 
 abbrev pub feed_number : (limit b : ℕ) → Answer × State
-feed_number limit b = if ltb b limit then (answer.Step (step.Object (found b)), ended) else (faulted large, failed large)
+feed_number limit b = when ltb b limit then (answer.Step (step.Object (found b)), ended) else (faulted large, failed large)
 
 abbrev pub feed_of : State → List ℕ → Answer × State
 feed_of (giving limit done) p = feed_given limit done p (same_or_not p (part given done (length p)))
@@ -97,7 +97,7 @@ given_spelled limit =
     }
   where
     same-told : (d : ℕ) (p : List ℕ) → p ≡ part given d (length p) → (s : (p ≡ part given d (length p)) ⊎ (p ≡ part given d (length p) → ⊥))
-        → feed_given limit d p s ≡ if eqb (d + length p) 2 then (framing, number limit) else (framing, giving limit (d + length p))
+        → feed_given limit d p s ≡ when eqb (d + length p) 2 then (framing, number limit) else (framing, giving limit (d + length p))
     same-told d p e (inl x) = refl
     same-told d p e (inr x) = absurd (x e)
 
@@ -108,7 +108,7 @@ given_spelled limit =
 
 -- its last byte, a demand of its own
 number_phase : (limit : ℕ) → Phase machine 2 1 framing (λ q. number limit) (λ q w. feed_number limit (get_or w 0 0))
-unfolding if◌then◌else◌
+unfolding when◌then◌else◌
 number_phase limit = record { asking = λ q h. asked_alone q h; taking = λ q p h k. taken_alone q p h k }
   where
     asked_alone : (q : List ℕ) → length q < 1 → demand 2 1 ≡ demand (2 + length q) (1 - length q)
@@ -116,7 +116,7 @@ number_phase limit = record { asking = λ q h. asked_alone q h; taking = λ q p 
     asked_alone (b ∷ q) h = absurd (omega arith)
 
     taken_alone : (q p : List ℕ) → 0 < length p → length q + length p ≤ 1
-        → feed_number limit (get_or p 0 0) ≡ if eqb (length q + length p) 1 then feed_number limit (get_or (q ++ p) 0 0) else (framing, number limit)
+        → feed_number limit (get_or p 0 0) ≡ when eqb (length q + length p) 1 then feed_number limit (get_or (q ++ p) 0 0) else (framing, number limit)
     taken_alone [] [] h k = absurd (omega arith)
     taken_alone [] (b ∷ []) h k = refl
     taken_alone [] (b ∷ c ∷ p) h k = absurd (omega arith)

@@ -5,7 +5,7 @@ use mathlib.Core.List.{List, [], ◌++◌}
 use mathlib.Core.Logic.{◌⊎◌}
 use mathlib.Core.Path.{◌≡◌, sym, ◌∙◌}
 use lib.ListN.{length}
-use Rattle.streaming.specs.Choose.{if◌then◌else◌}
+use Rattle.streaming.specs.Choose.{when◌then◌else◌}
 use Rattle.streaming.specs.Record.{committed_in}
 use Rattle.streaming.specs.declared.Fault.{Fault}
 use Rattle.streaming.specs.declared.Asked.{Asked}
@@ -46,7 +46,7 @@ module _ {H : Type 0} (Of : H → List ℕ → Type 0) (rules : H → List ℕ �
     -- A further call commits what the rules say at the last byte that it takes; one that is not taken commits nothing.
     pub last_byte_commits : (c : Call) → HonestCall W src (run W (W.start h) cs) c
         → committed_in (W.feed (run W (W.start h) cs) c).0
-        ≡ if takes (W.request (run W (W.start h) cs)) c then committed_in (says_at (bytes W (W.start h) cs + length c.piece) (rules h src)) else []
+        ≡ when takes (W.request (run W (W.start h) cs)) c then committed_in (says_at (bytes W (W.start h) cs + length c.piece) (rules h src)) else []
     last_byte_commits = S.last_byte W (tidy h src of) (W.start h) doing cs honest
 
     -- A run that has taken all that it is asked for, as far as the source has it, has the whole list and the rules' own ending.

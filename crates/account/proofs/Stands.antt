@@ -8,7 +8,7 @@ use native.Mathlib.Omega.{arith}
 use lib.ListN.{length}
 use lib.Dec.{leb}
 use borrow.Author.Tests.{leb-true, leb-false}
-use Rattle.streaming.specs.Choose.{if◌then◌else◌}
+use Rattle.streaming.specs.Choose.{when◌then◌else◌}
 use Rattle.streaming.specs.Record.{committed_in}
 use Rattle.streaming.specs.declared.Ended.TheVariants as ended
 use Rattle.account.specs.Account.{Account, ask_of, passed, says_at, records_in, records_within, ending_of}
@@ -42,7 +42,7 @@ module _ {H : Type 0} (W : Walker H) {src : List ℕ} where
     -- (b) the call that takes a record's last byte commits it
     pub last_byte : (cs : List Call) → Honest W src st cs → (c : Call) → HonestCall W src (run W st cs) c
         → committed_in (W.feed (run W st cs) c).0
-        ≡ if takes (W.request (run W st cs)) c then committed_in (says_at (bytes W st cs + length c.piece) a) else []
+        ≡ when takes (W.request (run W st cs)) c then committed_in (says_at (bytes W st cs + length c.piece) a) else []
     last_byte cs h c k =
         let d = does_run W cs st a does h in
         rw ((asks W (run W st cs) _ d).request, answers W (run W st cs) _ d c k) (answer-last (bytes W st cs) a c)

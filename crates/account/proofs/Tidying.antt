@@ -7,7 +7,7 @@ use native.Mathlib.Omega.{arith}
 use lib.ListN.{length, get_or}
 use lib.Dec.{ltb, eqb}
 use borrow.Author.Tests.{ltb-true, ltb-false}
-use Rattle.streaming.specs.Choose.{if◌then◌else◌}
+use Rattle.streaming.specs.Choose.{when◌then◌else◌}
 use Rattle.streaming.specs.declared.Fault.{Fault}
 use Rattle.streaming.specs.declared.Answer.{Answer}
 use Rattle.streaming.proofs.Choose.{in_both}
@@ -19,10 +19,10 @@ use Rattle.account.proofs.Asking.{span_asks, spell_asks}
 module _ {src : List ℕ} where
   -- ---- a choice between accounts, and between turns
 
-  pub tidy_if : (b : Bool) {x y : Account} → (b ≡ true → Tidy src x) → (b ≡ false → Tidy src y) → Tidy src (if b then x else y)
+  pub tidy_if : (b : Bool) {x y : Account} → (b ≡ true → Tidy src x) → (b ≡ false → Tidy src y) → Tidy src (when b then x else y)
   tidy_if b = in_both (Tidy src) b
 
-  pub tidy_turn_if : (b : Bool) (x y : Turn) → (b ≡ true → Tidy src x.rest) → (b ≡ false → Tidy src y.rest) → Tidy src (if b then x else y).rest
+  pub tidy_turn_if : (b : Bool) (x y : Turn) → (b ≡ true → Tidy src x.rest) → (b ≡ false → Tidy src y.rest) → Tidy src (when b then x else y).rest
   tidy_turn_if b x y = in_both (λ (t : Turn). Tidy src t.rest) b
 
   pub tidy_bad : (f : Fault) → Tidy src (bad f).rest

@@ -4,7 +4,7 @@ use Prim.Native.Nat.{ℕ}
 use mathlib.Core.Bool.{Bool, true, false}
 use mathlib.Core.List.{List, [], ◌∷◌}
 use mathlib.Core.Path.{◌≡◌, refl, ap}
-use Rattle.streaming.specs.Choose.{if◌then◌else◌}
+use Rattle.streaming.specs.Choose.{when◌then◌else◌}
 use Rattle.streaming.specs.declared.Answer.{Answer}
 use Rattle.streaming.specs.declared.Answer.TheVariants as answer
 use Rattle.account.specs.Account.{Account, ask_of}
@@ -14,7 +14,7 @@ use Rattle.account.proofs.Walks.{Machine, On, on_asks, on_takes}
 
 module _ {H : Type 0} (M : Machine) (start : H → M.State) where
   abbrev pub fed : M.State → Call → Answer × M.State
-  fed st c = if takes (M.request st) c then M.feed st c.piece else (answer.Refused (refusal (M.request st) c), st)
+  fed st c = when takes (M.request st) c then M.feed st c.piece else (answer.Refused (refusal (M.request st) c), st)
 
   abbrev pub walker_of : Walker H
   walker_of = record { State = M.State; start = start; request = M.request; feed = fed; end_of_input = λ st. ended_by (M.request st) }
@@ -25,7 +25,7 @@ module _ {H : Type 0} (M : Machine) (start : H → M.State) where
       goes : On M src (fed st c).1 (after a c)
 
     answered : {st : M.State} {a : Account} → On M src st a → (c : Call) → HonestCall walker_of src st c → Answered st a c
-    unfolding answer_of after if◌then◌else◌
+    unfolding answer_of after when◌then◌else◌
     answered {st} {a} o c honest = split (takes (ask_of a) c) refl
       where
         q : M.request st ≡ ask_of a

@@ -10,7 +10,7 @@ use lib.ListN.{length, drop, length-drop, drop_of_length-le}
 use lib.Dec.{eqb}
 use lib.Seq.{drop-drop}
 use borrow.Author.Tests.{eqb-true, eqb-false}
-use Rattle.streaming.specs.Choose.{if◌then◌else◌}
+use Rattle.streaming.specs.Choose.{when◌then◌else◌}
 use Rattle.streaming.specs.declared.Fault.{Fault}
 use Rattle.streaming.specs.declared.Asked.{Asked}
 use Rattle.streaming.specs.declared.Answer.{Answer}
@@ -34,13 +34,13 @@ module _ (M : Machine) where
   pub record Phase (at n : ℕ) (plain : Answer) (mid : List ℕ → M.State) (fin : (q w : List ℕ) → Answer × M.State) : Type 0 where
     pub asking : (q : List ℕ) → length q < n → M.request (mid q) ≡ demand (at + length q) (n - length q)
     pub taking : (q p : List ℕ) → 0 < length p → length q + length p ≤ n
-        → M.feed (mid q) p ≡ if eqb (length q + length p) n then fin q (q ++ p) else (plain, mid (q ++ p))
+        → M.feed (mid q) p ≡ when eqb (length q + length p) n then fin q (q ++ p) else (plain, mid (q ++ p))
 
   -- given bytes at a place: behind d of them the machine is in `mid d`, and the rest of them leads from there to `fin d`, another byte to `gone d`
   pub record Spelled (at : ℕ) (ws : List ℕ) (f : Fault) (mid gone : ℕ → M.State) (fin : ℕ → Answer × M.State) : Type 0 where
     pub asking : (d : ℕ) → d < length ws → M.request (mid d) ≡ demand (at + d) (length ws - d)
     pub taking : (d : ℕ) (p : List ℕ) → 0 < length p → d + length p ≤ length ws → p ≡ part ws d (length p)
-        → M.feed (mid d) p ≡ if eqb (d + length p) (length ws) then fin d else (framing, mid (d + length p))
+        → M.feed (mid d) p ≡ when eqb (d + length p) (length ws) then fin d else (framing, mid (d + length p))
     pub tearing : (d : ℕ) (p : List ℕ) → 0 < length p → d + length p ≤ length ws → (p ≡ part ws d (length p) → ⊥)
         → M.feed (mid d) p ≡ (faulted f, gone d)
     pub broke : (d : ℕ) → M.request (gone d) ≡ broken f
@@ -86,7 +86,7 @@ module _ (M : Machine) where
         → (at + n ≤ length src → (q : List ℕ) → On (fin q (part src at n)).1 t.rest)
         → (b : ℕ) (bs : List ℕ) → suc (length bs) ≤ n - d → (b ∷ bs) ≡ part src (at + d) (suc (length bs))
         → Goes (mid (part src at d)) (span src (at + d) (n - d) plain t) (b ∷ bs)
-    unfolding span if◌then◌else◌
+    unfolding span when◌then◌else◌
     amid_goes {at} {n} {plain} {mid} {fin} t p d l r says goes b bs h e = split (eqb (d + suc (length bs)) n) refl
       where
         k : ℕ
@@ -101,7 +101,7 @@ module _ (M : Machine) where
         joined : part src at d ++ (b ∷ bs) ≡ part src at (d + k)
         joined = ap (λ (x : List ℕ). part src at d ++ x) e ∙ part_add src at d k
 
-        fed : M.feed (mid (part src at d)) (b ∷ bs) ≡ if eqb (d + k) n then fin (part src at d) (part src at (d + k)) else (plain, mid (part src at (d + k)))
+        fed : M.feed (mid (part src at d)) (b ∷ bs) ≡ when eqb (d + k) n then fin (part src at d) (part src at (d + k)) else (plain, mid (part src at (d + k)))
         fed = p.taking (part src at d) (b ∷ bs) (omega arith) (omega (arith, q)) ∙ rw (q, joined)
 
         split : (v : Bool) → eqb (d + k) n ≡ v → Goes (mid (part src at d)) (span src (at + d) (n - d) plain t) (b ∷ bs)
@@ -125,7 +125,7 @@ module _ (M : Machine) where
         → (at + length ws ≤ length src → (d : ℕ) → (fin d).0 ≡ t.says) → (at + length ws ≤ length src → (d : ℕ) → On (fin d).1 t.rest)
         → (b : ℕ) (bs : List ℕ) → suc (length bs) ≤ length ws - d → (b ∷ bs) ≡ part src (at + d) (suc (length bs))
         → Goes (mid d) (spell src (at + d) (drop d ws) f t) (b ∷ bs)
-    unfolding spell if◌then◌else◌
+    unfolding spell when◌then◌else◌
     spelling_goes {at} {ws} {f} {mid} {gone} {fin} t p d l says goes b bs h e = split (same_or_not (b ∷ bs) (part ws d (suc (length bs))))
       where
         k : ℕ
@@ -187,8 +187,8 @@ module _ (M : Machine) where
 
     -- the machine and the rules make the same test
     pub lands_if : (b : Bool) {r r' : Answer × M.State} {t t' : Turn} → (b ≡ true → Lands r t) → (b ≡ false → Lands r' t')
-        → Lands (if b then r else r') (if b then t else t')
-    unfolding if◌then◌else◌
+        → Lands (when b then r else r') (when b then t else t')
+    unfolding when◌then◌else◌
     lands_if true x y = x refl
     lands_if false x y = y refl
 

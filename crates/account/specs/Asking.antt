@@ -1,6 +1,6 @@
 -- Demands on a source, out of which an account is made. Each ends in a turn.
 use Rattle.std.specs.Prelude.{ℕ, zero, suc, List, [], ◌∷◌, length, get_or, ltb, eqb}
-use Rattle.streaming.specs.Choose.{if◌then◌else◌}
+use Rattle.streaming.specs.Choose.{when◌then◌else◌}
 use Rattle.streaming.specs.declared.Fault.{Fault}
 use Rattle.streaming.specs.declared.Answer.{Answer}
 use Rattle.account.specs.Account.{Account, ask, over, demand, framing, faulted, broken}
@@ -24,7 +24,7 @@ says_before (suc n) plain t = plain
 module _ (src : List ℕ) where
   -- a byte of a demand, if the source has it
   abbrev pub ask_byte : (at left : ℕ) → Answer → Account → Account
-  ask_byte at left says rest = if ltb at (length src) then ask at left says rest else over (demand at left)
+  ask_byte at left says rest = when ltb at (length src) then ask at left says rest else over (demand at left)
 
   -- a demand of n bytes
   unfoldable pub span : (at n : ℕ) → Answer → Turn → Account
@@ -44,5 +44,5 @@ module _ (src : List ℕ) where
   unfoldable pub spell : (at : ℕ) → List ℕ → Fault → Turn → Account
   spell at [] f t = t.rest
   spell at (w ∷ ws) f t =
-      if eqb (get_or src at 0) w then ask_byte at (suc (length ws)) (says_before (length ws) framing t) (spell (suc at) ws f t)
+      when eqb (get_or src at 0) w then ask_byte at (suc (length ws)) (says_before (length ws) framing t) (spell (suc at) ws f t)
       else ask_byte at (suc (length ws)) (faulted f) (over (broken f))

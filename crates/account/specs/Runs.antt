@@ -1,6 +1,6 @@
 -- What a run of a walker is seen to do: the words of the promises.
 use Rattle.std.specs.Prelude.{ℕ, ◌+◌, ◌≤◌, List, [], ◌∷◌, ◌++◌, ◌≡◌, length}
-use Rattle.streaming.specs.Choose.{if◌then◌else◌}
+use Rattle.streaming.specs.Choose.{when◌then◌else◌}
 use Rattle.streaming.specs.Record.{Record, committed_in}
 use Rattle.streaming.specs.declared.Fault.{Fault}
 use Rattle.streaming.specs.declared.Asked.{Asked}
@@ -17,12 +17,12 @@ module _ {H : Type 0} (W : Walker H) where
   -- the bytes taken by them
   abbrev pub bytes : W.State → List Call → ℕ
   bytes st [] = 0
-  bytes st (c ∷ cs) = (if takes (W.request st) c then length c.piece else 0) + bytes (W.feed st c).1 cs
+  bytes st (c ∷ cs) = (when takes (W.request st) c then length c.piece else 0) + bytes (W.feed st c).1 cs
 
   -- how many of them were taken
   abbrev pub accepted : W.State → List Call → ℕ
   accepted st [] = 0
-  accepted st (c ∷ cs) = (if takes (W.request st) c then 1 else 0) + accepted (W.feed st c).1 cs
+  accepted st (c ∷ cs) = (when takes (W.request st) c then 1 else 0) + accepted (W.feed st c).1 cs
 
   -- the records that they committed, in order
   abbrev pub committed : W.State → List Call → List Record

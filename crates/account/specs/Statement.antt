@@ -1,6 +1,6 @@
 -- The statement: what it is for any walker to follow the rules of a format, over every list of calls. Nothing here knows the format.
 use Rattle.std.specs.Prelude.{ℕ, Bool, true, false, ◌&&◌, List, [], ◌∷◌, ◌≡◌, length, take, drop, ltb, leb, eqb}
-use Rattle.streaming.specs.Choose.{if◌then◌else◌}
+use Rattle.streaming.specs.Choose.{when◌then◌else◌}
 use Rattle.streaming.specs.declared.StreamError.{StreamError}
 use Rattle.streaming.specs.declared.StreamError.TheVariants as error
 use Rattle.streaming.specs.declared.Asked.{Asked}
@@ -27,17 +27,17 @@ takes (asked.Refused e) c = false
 -- and why another one is not
 abbrev pub refusal : Asked → Call → StreamError
 refusal (asked.Demand r) c =
-    if eqb c.offset r.offset then error.InvalidFeed r.len (length c.piece) else error.WrongOffset r.offset c.offset
+    when eqb c.offset r.offset then error.InvalidFeed r.len (length c.piece) else error.WrongOffset r.offset c.offset
 refusal asked.Nothing c = error.Finished
 refusal (asked.Refused e) c = e
 
 -- ---- what an account answers to a call, and what is left of it
 
 unfoldable pub answer_of : Account → Call → Answer
-answer_of a c = if takes (ask_of a) c then says_at (length c.piece) a else answer.Refused (refusal (ask_of a) c)
+answer_of a c = when takes (ask_of a) c then says_at (length c.piece) a else answer.Refused (refusal (ask_of a) c)
 
 unfoldable pub after : Account → Call → Account
-after a c = if takes (ask_of a) c then passed (length c.piece) a else a
+after a c = when takes (ask_of a) c then passed (length c.piece) a else a
 
 -- what the end of input says, by what is still asked for
 abbrev pub ended_by : Asked → Ended

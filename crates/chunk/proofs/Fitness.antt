@@ -1,5 +1,5 @@
 -- What the tests of `specs/Fit.antt` show.
-use Prim.Native.Nat.{ℕ, ◌+◌, ◌≤◌, ◌<◌}
+use Prim.Native.Nat.{◌+◌, ◌≤◌, ◌<◌}
 use mathlib.Core.Bool.{Bool, true}
 use mathlib.Core.Path.{◌≡◌}
 use native.Mathlib.Omega.{arith}

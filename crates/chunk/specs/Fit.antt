@@ -1,7 +1,7 @@
 -- Which states of stage Chunk a walk can reach, and what the later stages hold of a chunk.
 use Rattle.std.specs.Prelude.{ℕ, ◌+◌, ◌≤◌, ◌<◌, Bool, ◌&&◌, ◌≡◌, replicate, ltb, leb, eqb}
 use Rattle.octets.specs.Octets.{same}
-use Rattle.streaming.specs.Choose.{if◌then◌else◌}
+use Rattle.streaming.specs.Choose.{when◌then◌else◌}
 use Rattle.streaming.specs.declared.FlatHeader.{FlatHeader}
 use Rattle.streaming.specs.declared.MapCursor.{MapCursor}
 use Rattle.streaming.specs.declared.FlatWalker.{FlatWalker}
@@ -22,7 +22,7 @@ no_entry m =
 -- the chunk is as far as a walk can be: its size, once it is known, fits a map that ends there
 unfoldable pub chunk_done : (end chunk done size : ℕ) → Bool
 chunk_done end chunk done size =
-    if ltb done 2 then eqb size 0
+    when ltb done 2 then eqb size 0
     else (leb 2 size && leb size 2034) && (leb (chunk + size + 2) end && ltb done (size + 2))
 
 unfoldable pub fit_chunk : FlatWalker → Bool

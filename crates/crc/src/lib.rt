@@ -111,8 +111,7 @@ fn first_row() -> [u16; 256]
 }
 
 // A byte at a time.
-#[unsafe(no_mangle)]
-pub extern "C" fn crc8_plain(seed: u16, data: &[u8]) -> u16
+pub fn crc8_plain(seed: u16, data: &[u8]) -> u16
     ensures { result ≡ crc_of seed «data».now }
 {
     let row = first_row();
@@ -127,8 +126,7 @@ fn crc8_long(seed: u16, data: &[u8]) -> u16
 }
 
 // Below some 24 bytes the table's making costs more than it saves.
-#[unsafe(no_mangle)]
-pub extern "C" fn crc8(seed: u16, data: &[u8]) -> u16
+pub fn crc8(seed: u16, data: &[u8]) -> u16
     ensures { result ≡ crc_of seed «data».now }
 {
     if data.len() < 24 {

@@ -7,7 +7,7 @@ use lib.ListN.{length, get_or, length-take, length-drop}
 use lib.Dec.{eqb, ltb}
 use native.Mathlib.Omega.{arith}
 use borrow.Author.Tests.{lt-ltb, le-leb, eq-eqb, ltb-true, ltb-false, eqb-false}
-use Rattle.streaming.specs.Choose.{if◌then◌else◌}
+use Rattle.streaming.specs.Choose.{when◌then◌else◌}
 use Rattle.streaming.specs.declared.Request.{Request}
 use Rattle.streaming.specs.declared.Asked.{Asked}
 use Rattle.streaming.specs.declared.Asked.TheVariants as asked
@@ -30,7 +30,7 @@ pub turning_first : (c : Cuts) → Turning c 0
 turning_first c = record { below = omega arith; round = λ h. h }
 
 pub turning_after : (c : Cuts) (turn r : ℕ) → Cutting c → r ≡ turn_after c turn → Turning c r
-unfolding turn_after if◌then◌else◌
+unfolding turn_after when◌then◌else◌
 turning_after c turn r cutting e = split (ltb (turn + 1) c.count) refl
   where
     split : (b : Bool) → ltb (turn + 1) c.count ≡ b → Turning c r
@@ -45,11 +45,11 @@ turning_after c turn r cutting e = split (ltb (turn + 1) c.count) refl
 -- ---- sizes
 
 pub cut_some : (c : Cuts) (turn demand : ℕ) → Cutting c → Turning c turn → 0 < demand → (0 < cut_to c turn demand) × (cut_to c turn demand ≤ demand)
-unfolding cut_to if◌then◌else◌
+unfolding cut_to when◌then◌else◌
 cut_some c turn demand cutting turning some = split (eqb c.count 0) refl
   where
     split : (b : Bool) → eqb c.count 0 ≡ b
-        → (0 < (if b then demand else min (get_or c.sizes turn 0) demand)) × ((if b then demand else min (get_or c.sizes turn 0) demand) ≤ demand)
+        → (0 < (when b then demand else min (get_or c.sizes turn 0) demand)) × ((when b then demand else min (get_or c.sizes turn 0) demand) ≤ demand)
     split true v = (some, omega arith)
     split false v =
         let n = eqb-false c.count 0 v in
@@ -84,7 +84,7 @@ module _ (src : List ℕ) (c : Cuts) (turn : ℕ) (cutting : Cutting c) (turning
 
   pub chosen : (q : Asked) (n offset len : ℕ) → ((r : Request) → q ≡ asked.Demand r → 0 < r.len) → length src ≡ n
       → next.Piece offset len ≡ next_by q n c turn → Chosen src q offset len
-  unfolding if◌then◌else◌
+  unfolding when◌then◌else◌
   chosen asked.Nothing n offset len some whole e = absurd (let z : ◌≡◌ {A = ℕ} 0 1 = cc in omega arith)
   chosen (asked.Refused x) n offset len some whole e = absurd (let z : ◌≡◌ {A = ℕ} 0 1 = cc in omega arith)
   chosen (asked.Demand r) n offset len some whole e = split (ltb r.offset n) refl
@@ -102,7 +102,7 @@ module _ (src : List ℕ) (c : Cuts) (turn : ℕ) (cutting : Cutting c) (turning
 
   -- where there is none, the source has nothing of what is asked for
   pub past : (q : Asked) (n : ℕ) → length src ≡ n → next.Over ≡ next_by q n c turn → Past src q
-  unfolding if◌then◌else◌
+  unfolding when◌then◌else◌
   past asked.Nothing n whole e = tt
   past (asked.Refused x) n whole e = tt
   past (asked.Demand r) n whole e = split (ltb r.offset n) refl

@@ -8,7 +8,7 @@ use lib.ListN.{length, take, drop, length-drop}
 use lib.Seq.{take_all}
 use native.Mathlib.Omega.{arith}
 use borrow.Author.Tests.{lt-ltb, le-ltb}
-use Rattle.streaming.specs.Choose.{if◌then◌else◌}
+use Rattle.streaming.specs.Choose.{when◌then◌else◌}
 use Rattle.streaming.specs.declared.Request.{Request}
 use Rattle.streaming.specs.declared.FlatHeader.{FlatHeader}
 use Rattle.streaming.specs.declared.FlatWalker.{FlatWalker}
@@ -45,11 +45,11 @@ use Rattle.driving.proofs.Chosen.{Turning, Chosen, chosen, past}
 module _ (q : Asked) (r : Request) (n : ℕ) (c : Cuts) (turn : ℕ) (e : q ≡ asked.Demand r) where
   pub a_piece : (cut len : ℕ) → r.offset < n → cut ≡ cut_to c turn r.len → len ≡ min cut (n - r.offset)
       → next.Piece r.offset len ≡ next_by q n c turn
-  unfolding if◌then◌else◌
+  unfolding when◌then◌else◌
   a_piece cut len h k l = rw (e, lt-ltb r.offset n h, l, k)
 
   pub no_piece : n ≤ r.offset → next.Over ≡ next_by q n c turn
-  unfolding if◌then◌else◌
+  unfolding when◌then◌else◌
   no_piece h = rw (e, le-ltb r.offset n h)
 
 -- ---- `take`

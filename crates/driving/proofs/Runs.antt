@@ -7,7 +7,7 @@ use mathlib.Core.Path.{◌≡◌, refl, sym, ap, ap₂, subst, ◌∙◌}
 use lib.ListN.{length}
 use native.Mathlib.Omega.{arith}
 use native.Mathlib.Nat.{mul-le-mul_right}
-use Rattle.streaming.specs.Choose.{if◌then◌else◌}
+use Rattle.streaming.specs.Choose.{when◌then◌else◌}
 use Rattle.streaming.specs.declared.FlatHeader.{FlatHeader}
 use Rattle.streaming.specs.declared.FlatWalker.{FlatWalker}
 use Rattle.streaming.specs.declared.Ended.{Ended}
@@ -43,7 +43,7 @@ module _ {H : Type 0} (W : Walker H) (src : List ℕ) (c : Call) where
 
   bytes-more : (st : W.State) (cs : List Call) → takes (W.request (run W st cs)) c ≡ true
       → bytes W st (cs ++ (c ∷ [])) ≡ bytes W st cs + length c.piece
-  unfolding if◌then◌else◌
+  unfolding when◌then◌else◌
   bytes-more st [] t = rw t (omega arith)
   bytes-more st (d ∷ ds) t = omega (arith, bytes-more (W.feed st d).1 ds t)
 

@@ -1,6 +1,6 @@
 -- What the driver prints: a line for each record, and the lines of the ending.
 use Rattle.std.specs.Prelude.{ℕ, List, [], ◌∷◌}
-use Rattle.streaming.specs.Choose.{if◌then◌else◌}
+use Rattle.streaming.specs.Choose.{when◌then◌else◌}
 use Rattle.streaming.specs.Numbers.{number_of}
 use Rattle.streaming.specs.declared.Step.{Step}
 use Rattle.streaming.specs.declared.Step.TheVariants as step
@@ -14,7 +14,7 @@ use Rattle.driving.specs.declared.said.Saying.{Saying}
 
 -- the text of a line that is said, or no text
 abbrev pub saying_text : Saying → List ℕ
-saying_text s = if s.said then text_of s.line else []
+saying_text s = when s.said then text_of s.line else []
 
 -- a record has its line, and no other step has one
 abbrev pub step_text : Step → List ℕ

@@ -5,7 +5,7 @@ use mathlib.Core.List.{List}
 use mathlib.Core.Path.{◌≡◌, refl, sym, ap, ◌∙◌, subst}
 use lib.ListN.{length}
 use lib.Dec.{ltb, leb, eqb}
-use Rattle.streaming.specs.Choose.{if◌then◌else◌}
+use Rattle.streaming.specs.Choose.{when◌then◌else◌}
 use Rattle.streaming.specs.State.{refused_by}
 use Rattle.streaming.specs.declared.Request.{Request}
 use Rattle.streaming.specs.declared.StreamError.{StreamError}
@@ -33,11 +33,11 @@ use Rattle.flat.specs.declared.feeding.Offer.TheVariants as offer
 -- ---- what is asked for
 
 pub asked_fit : {fit r : Bool} {q p : Request} → r ≡ fit → r ≡ true → q ≡ p → asked.Demand q ≡ asked_if fit (asked.Demand p)
-unfolding if◌then◌else◌
+unfolding when◌then◌else◌
 asked_fit e t d = rw (← e, t, d)
 
 pub asked_unfit : {fit r : Bool} (q : Asked) → r ≡ fit → r ≡ false → asked.Refused error.BadState ≡ asked_if fit q
-unfolding if◌then◌else◌
+unfolding when◌then◌else◌
 asked_unfit q e t = rw (← e, t)
 
 -- ---- what a piece does
@@ -49,12 +49,12 @@ by_offer (offer.Refused e) s taken = refused_by e s
 
 offered_by_lem : (r : Request) (s : FlatWalker) (offset : ℕ) (piece : List ℕ) (taken : Fed)
     → by_offer (offer_of r offset (length piece)) s taken ≡ offered_to r s offset piece taken
-unfolding offer_of if◌then◌else◌
+unfolding offer_of when◌then◌else◌
 offered_by_lem r s offset piece taken = both (eqb offset r.offset) (ltb 0 (length piece) && leb (length piece) r.len)
   where
     both : (a b : Bool)
-        → by_offer (if a then (if b then offer.Taken else offer.Refused (error.InvalidFeed r.len (length piece))) else offer.Refused (error.WrongOffset r.offset offset)) s taken
-        ≡ if a then (if b then taken else refused_by (error.InvalidFeed r.len (length piece)) s) else refused_by (error.WrongOffset r.offset offset) s
+        → by_offer (when a then (when b then offer.Taken else offer.Refused (error.InvalidFeed r.len (length piece))) else offer.Refused (error.WrongOffset r.offset offset)) s taken
+        ≡ when a then (when b then taken else refused_by (error.InvalidFeed r.len (length piece)) s) else refused_by (error.WrongOffset r.offset offset) s
     both true true = refl
     both true false = refl
     both false b = refl
@@ -62,20 +62,20 @@ offered_by_lem r s offset piece taken = both (eqb offset r.offset) (ltb 0 (lengt
 module _ {fit b : Bool} {q p : Request} (s : FlatWalker) (offset : ℕ) (piece : List ℕ) {o : Offer} (taken : Fed)
     (e : b ≡ fit) (t : b ≡ true) (d : q ≡ p) (k : o ≡ offer_of q offset (length piece)) where
   pub fed_taken : {r : Fed} → o ≡ offer.Taken → r ≡ taken → r ≡ fed_if fit p s offset piece taken
-  unfolding if◌then◌else◌
+  unfolding when◌then◌else◌
   fed_taken x y =
       y ∙ ap (λ (z : Offer). by_offer z s taken) (sym x ∙ k ∙ ap (λ (z : Request). offer_of z offset (length piece)) d)
       ∙ offered_by_lem p s offset piece taken ∙ rw (← e, t)
 
   pub fed_refused : {r : Fed} {f : StreamError} → o ≡ offer.Refused f → r ≡ refused_by f s → r ≡ fed_if fit p s offset piece taken
-  unfolding if◌then◌else◌
+  unfolding when◌then◌else◌
   fed_refused x y =
       y ∙ ap (λ (z : Offer). by_offer z s taken) (sym x ∙ k ∙ ap (λ (z : Request). offer_of z offset (length piece)) d)
       ∙ offered_by_lem p s offset piece taken ∙ rw (← e, t)
 
 pub fed_unfit : {fit b : Bool} (p : Request) (s : FlatWalker) (offset : ℕ) (piece : List ℕ) (taken : Fed) {r : Fed} → b ≡ fit → b ≡ false → r ≡ refused_by error.BadState s
     → r ≡ fed_if fit p s offset piece taken
-unfolding if◌then◌else◌
+unfolding when◌then◌else◌
 fed_unfit p s offset piece taken e t y = y ∙ rw (← e, t)
 
 -- ---- by the stage
@@ -92,7 +92,7 @@ untaken_fit s e = rw e
 -- what the stages do is what is done by what is asked for
 pub fed_stage : (g : Stage) (s : FlatWalker) (offset : ℕ) (piece : List ℕ)
     → fed_at g s offset piece ≡ offered_by g (asked_if (fit_at g s) (request_at g s)) s offset piece
-unfolding if◌then◌else◌
+unfolding when◌then◌else◌
 fed_stage g s offset piece = by_stage g
   where
     both : (g : Stage) (fit : Bool) (r : Request) → fed_if fit r s offset piece (feed_at g s piece) ≡ offered_by g (asked_if fit (asked.Demand r)) s offset piece
@@ -128,7 +128,7 @@ module _ (s : FlatWalker) where
     requested_taken e y = y ∙ ap (λ (z : Bool). asked_if z (request_at s.stage s)) (sym (taken_fit s (sym t ∙ e))) ∙ sym (requested_none none)
 
     pub requested_untaken : b ≡ false → asked.Refused error.BadState ≡ request_of s
-    unfolding if◌then◌else◌
+    unfolding when◌then◌else◌
     requested_untaken e = sym (requested_none none ∙ rw (untaken_fit s (sym t ∙ e)))
 
     module _ (offset : ℕ) (piece : List ℕ) {r : Fed} where

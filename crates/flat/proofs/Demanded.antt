@@ -3,7 +3,7 @@ use mathlib.Core.Bool.{Bool, true, false}
 use mathlib.Core.Path.{◌≡◌, refl, ap}
 use native.Mathlib.Omega.{arith}
 use Prim.Native.Nat.{ℕ}
-use Rattle.streaming.specs.Choose.{if◌then◌else◌}
+use Rattle.streaming.specs.Choose.{when◌then◌else◌}
 use Rattle.streaming.specs.declared.Request.{Request}
 use Rattle.streaming.specs.declared.Asked.TheVariants as asked
 use Rattle.streaming.specs.declared.Failure.{Failure}
@@ -22,7 +22,7 @@ pub record Demanded (s : FlatWalker) (r : Request) : Type 0 where
   pub asks : request_at s.stage s ≡ asked.Demand r
 
 pub demanded : (s : FlatWalker) (r : Request) → request_of s ≡ asked.Demand r → Demanded s r
-unfolding request_of if◌then◌else◌
+unfolding request_of when◌then◌else◌
 demanded s r = by_failure s.failure refl
   where
     by_fit : is_sound s.failure ≡ true → (b : Bool) → fit_of s ≡ b → asked_if b (request_at s.stage s) ≡ asked.Demand r → Demanded s r

@@ -6,7 +6,7 @@ use mathlib.Core.Path.{◌≡◌, refl, subst}
 use native.Mathlib.Omega.{arith}
 use lib.Dec.{ltb, eqb}
 use borrow.Author.Tests.{ltb-true, ltb-false, eqb-true, eqb-false}
-use Rattle.streaming.specs.Choose.{if◌then◌else◌}
+use Rattle.streaming.specs.Choose.{when◌then◌else◌}
 use Rattle.streaming.specs.Numbers.{part_number}
 use Rattle.streaming.specs.declared.StreamError.{StreamError}
 use Rattle.streaming.specs.declared.Request.{Request}
@@ -108,7 +108,7 @@ ends-inside s end e = search shown
 
 module _ (s : FlatWalker) (f : FitObject s) where
   object-some : s.done < object_end s.done s.size s.ms_len
-  unfolding object_end if◌then◌else◌
+  unfolding object_end when◌then◌else◌
   object-some = split (eqb s.ms_len 0) refl
     where
       split : (b : Bool) → eqb s.ms_len 0 ≡ b → s.done < object_end s.done s.size s.ms_len
@@ -116,7 +116,7 @@ module _ (s : FlatWalker) (f : FitObject s) where
       split false e = (object-ends s f (eqb-false _ _ e)).more
 
   object-inside : (SecondWord s → ⊥) → s.object + object_end s.done s.size s.ms_len ≤ s.header.length
-  unfolding object_end if◌then◌else◌
+  unfolding object_end when◌then◌else◌
   object-inside other = split (eqb s.ms_len 0) refl
     where
       split : (b : Bool) → eqb s.ms_len 0 ≡ b → s.object + object_end s.done s.size s.ms_len ≤ s.header.length

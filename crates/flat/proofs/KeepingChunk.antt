@@ -8,7 +8,7 @@ use lib.ListN.{length, take}
 use lib.Dec.{ltb, leb, eqb}
 use borrow.Author.Tests.{ltb-true, ltb-false, eqb-false, lt-ltb, le-ltb, le-leb, eq-eqb}
 use Rattle.octets.specs.Octets.{same}
-use Rattle.streaming.specs.Choose.{if◌then◌else◌}
+use Rattle.streaming.specs.Choose.{when◌then◌else◌}
 use Rattle.streaming.specs.State.{in_unit, with_map, at_entry}
 use Rattle.streaming.specs.declared.FlatWalker.{FlatWalker}
 use Rattle.streaming.specs.declared.Stage.TheVariants as stage
@@ -28,7 +28,7 @@ use Rattle.flat.proofs.Keeping.{Keeps, Taken, keeps_failing, keeps_at, and_both,
 -- ---- entering one
 
 entered : (s : FlatWalker) (chunk : ℕ) → map_start s.header ≤ chunk → leb (chunk + 4) (map_end s.header) ≡ true → fit_chunk (chunk_at s chunk) ≡ true
-unfolding fit_chunk no_object no_entry chunk_done same if◌then◌else◌
+unfolding fit_chunk no_object no_entry chunk_done same when◌then◌else◌
 entered s chunk low e = and_both _ _ (and_both _ _ (le-leb _ _ low) e) refl
 
 pub keeps_enter_chunk : (s : FlatWalker) (chunk : ℕ) → Taken s → map_start s.header ≤ chunk → Keeps (enter_chunk s chunk)
@@ -56,13 +56,13 @@ module _ (s : FlatWalker) (taken : Taken s) (own : (t : FlatWalker) → fit_at s
 
   -- before the size is whole
   before : (done : ℕ) → s.done < 2 → done < 2 → chunk_done (map_end s.header) s.map.chunk done s.size ≡ true
-  unfolding chunk_done if◌then◌else◌
+  unfolding chunk_done when◌then◌else◌
   before done early k = rw (lt-ltb done 2 k) (eq-eqb _ _ (shows.early early))
 
   -- behind it
   behind : (done size : ℕ) → 2 ≤ done → 2 ≤ size → size ≤ 2034 → s.map.chunk + size + 2 ≤ map_end s.header → done < size + 2
       → chunk_done (map_end s.header) s.map.chunk done size ≡ true
-  unfolding chunk_done if◌then◌else◌
+  unfolding chunk_done when◌then◌else◌
   behind done size two least most inside within = rw (le-ltb done 2 two) (search made)
 
   -- behind it, as far as a piece leads
@@ -129,7 +129,7 @@ module _ (s : FlatWalker) (taken : Taken s) (own : (t : FlatWalker) → fit_at s
         (λ e. stays _ _ _ _ (goes (s.done + length piece) late (omega arith) (below (s.done + length piece) (s.size + 2) (omega arith) e)))
 
     pub keeps_chunk : Keeps (feed_chunk s piece).state
-    unfolding feed_chunk request_chunk chunk_end if◌then◌else◌
+    unfolding feed_chunk request_chunk chunk_end when◌then◌else◌
     keeps_chunk = split (ltb s.done 2) refl (ltb s.done s.size) refl
       where
         split : (a : Bool) → ltb s.done 2 ≡ a → (b : Bool) → ltb s.done s.size ≡ b → Keeps (feed_chunk s piece).state

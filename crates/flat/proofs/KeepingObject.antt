@@ -10,7 +10,7 @@ use lib.Dec.{ltb, eqb}
 use lib.Bits.{bit_or, or_lt}
 use borrow.Author.Tests.{ltb-true, eqb-true, eqb-false, lt-ltb, ne_eqb}
 use Rattle.crc.specs.Crc.{crc_of}
-use Rattle.streaming.specs.Choose.{if◌then◌else◌}
+use Rattle.streaming.specs.Choose.{when◌then◌else◌}
 use Rattle.streaming.specs.State.{in_unit, with_object}
 use Rattle.streaming.specs.declared.FlatWalker.{FlatWalker}
 use Rattle.streaming.specs.declared.Fed.{Fed}
@@ -50,7 +50,7 @@ module _ (s : FlatWalker) (taken : Taken s) (own : (t : FlatWalker) → fit_at s
   -- in the size words
   in_words : (done size crc : ℕ) (field : List ℕ) (words : ℕ) → words ≤ 1 → 2 * words ≤ done → done < 2 * words + 2 → size < 2 ^ (15 * words)
       → Keeps (placed done size crc field s.head 0 words)
-  unfolding object_done if◌then◌else◌
+  unfolding object_done when◌then◌else◌
   in_words done size crc field words few low high sized =
       keeps_at (placed done size crc field s.head 0 words) taken (own _ ∙ moved done size crc field s.head 0 words (search made) sized)
 
@@ -66,7 +66,7 @@ module _ (s : FlatWalker) (taken : Taken s) (own : (t : FlatWalker) → fit_at s
     sized : size < 2 ^ (15 * words)
 
   in_data : (done size crc : ℕ) (field head : List ℕ) (ms_len words : ℕ) → Fits done size ms_len words → Keeps (placed done size crc field head ms_len words)
-  unfolding object_done if◌then◌else◌
+  unfolding object_done when◌then◌else◌
   in_data done size crc field head ms_len words f =
       let b = f.bytes in
       let w = f.some in
@@ -185,7 +185,7 @@ module _ (s : FlatWalker) (taken : Taken s) (own : (t : FlatWalker) → fit_at s
         (λ e. goes (s.done + length piece) _ _ _ known (omega arith) (below (s.done + length piece) (s.ms_len + s.size + 2) (omega arith) e))
 
     pub keeps_object : Keeps (feed_object s piece).state
-    unfolding feed_object request_object object_end if◌then◌else◌
+    unfolding feed_object request_object object_end when◌then◌else◌
     keeps_object = split (eqb s.ms_len 0) refl (ltb s.done (s.ms_len + s.size)) refl
       where
         split : (a : Bool) → eqb s.ms_len 0 ≡ a → (b : Bool) → ltb s.done (s.ms_len + s.size) ≡ b → Keeps (feed_object s piece).state

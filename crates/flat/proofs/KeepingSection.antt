@@ -8,7 +8,7 @@ use lib.ListN.{length}
 use lib.Dec.{ltb, leb, eqb}
 use borrow.Author.Tests.{ltb-true, ltb-false, leb-true, eqb-true, lt-ltb, le-ltb, eq-eqb}
 use Rattle.octets.specs.Octets.{same}
-use Rattle.streaming.specs.Choose.{if◌then◌else◌}
+use Rattle.streaming.specs.Choose.{when◌then◌else◌}
 use Rattle.streaming.specs.Numbers.{part_number}
 use Rattle.streaming.specs.State.{in_unit}
 use Rattle.streaming.specs.declared.FlatWalker.{FlatWalker}
@@ -33,7 +33,7 @@ untouched s = no_object s && (no_entry s.map && eqb s.map.chunk 0)
 
 module _ (s : FlatWalker) (g : Stage) (taken : Taken s) (own : (t : FlatWalker) → fit_at g t ≡ fit_section t) (clear : untouched s ≡ true) where
   entered : leb frame (locator_of s.header (part_number (part_of g))).size ≡ true → fit_section (in_unit s g 0 0 s.crc s.field) ≡ true
-  unfolding fit_section section_done no_object if◌then◌else◌
+  unfolding fit_section section_done no_object when◌then◌else◌
   entered e =
       let framed : frame ≤ (locator_of s.header (part_number (part_of g))).size = leb-true _ _ e in
       let inside : 0 < (locator_of s.header (part_number (part_of g))).size = omega arith in
@@ -63,7 +63,7 @@ module _ (s : FlatWalker) (taken : Taken s) (own : (t : FlatWalker) → fit_at s
 
   -- the section stays in hand, before its size is whole
   before : (done crc : ℕ) (field : List ℕ) → s.done < 20 → done < 20 → Keeps (in_unit s s.stage done s.size crc field)
-  unfolding section_done if◌then◌else◌
+  unfolding section_done when◌then◌else◌
   before done crc field early k =
       let framed = shows.framed in
       keeps_at (in_unit s s.stage done s.size crc field) taken
@@ -72,7 +72,7 @@ module _ (s : FlatWalker) (taken : Taken s) (own : (t : FlatWalker) → fit_at s
   -- and behind it
   behind : (done size crc : ℕ) (field : List ℕ) → 20 ≤ done → frame + size ≡ (section_of s).size → done < frame + size
       → Keeps (in_unit s s.stage done size crc field)
-  unfolding section_done if◌then◌else◌
+  unfolding section_done when◌then◌else◌
   behind done size crc field late whole inside =
       keeps_at (in_unit s s.stage done size crc field) taken
       (own _ ∙ moved done size crc field (lt-ltb done _ (omega arith)) (rw (le-ltb done 20 late) (eq-eqb _ _ whole)))
@@ -129,7 +129,7 @@ module _ (s : FlatWalker) (taken : Taken s) (own : (t : FlatWalker) → fit_at s
         (λ q. keeps_failing s _)
 
     pub keeps_section : Keeps (feed_section s piece).state
-    unfolding feed_section request_section section_end if◌then◌else◌
+    unfolding feed_section request_section section_end when◌then◌else◌
     keeps_section = split (ltb s.done 16) refl (ltb s.done 20) refl (ltb s.done (20 + s.size)) refl (ltb s.done (22 + s.size)) refl
       where
         split : (a : Bool) → ltb s.done 16 ≡ a → (b : Bool) → ltb s.done 20 ≡ b → (c : Bool) → ltb s.done (20 + s.size) ≡ c

@@ -5,7 +5,7 @@ use mathlib.Core.Path.{◌≡◌}
 use native.Mathlib.Omega.{arith}
 use lib.Dec.{eqb}
 use borrow.Author.Tests.{eqb-false}
-use Rattle.streaming.specs.Choose.{if◌then◌else◌}
+use Rattle.streaming.specs.Choose.{when◌then◌else◌}
 use Rattle.streaming.specs.State.{in_unit, with_object}
 use Rattle.streaming.specs.declared.FlatHeader.{FlatHeader}
 use Rattle.streaming.specs.declared.MapCursor.{MapCursor}
@@ -37,7 +37,7 @@ pub record Led (h : FlatHeader) (m : MapCursor) (location : ℕ) : Type 0 where
 
 module _ (s : FlatWalker) (location : ℕ) (taken : Taken s) (led : Led s.header s.map location) where
   entered : may_start s.header location ≡ true → fit_object (with_object (in_unit s stage.Object 0 0 seed s.field) s.head location 0 0) ≡ true
-  unfolding fit_object object_consistent behind_entry object_done size_in_words if◌then◌else◌
+  unfolding fit_object object_consistent behind_entry object_done size_in_words when◌then◌else◌
   entered e = search made
 
   pub keeps_enter_object : Keeps (enter_object s location).state

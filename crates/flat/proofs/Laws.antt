@@ -5,7 +5,7 @@ use mathlib.Core.List.{List}
 use mathlib.Core.Path.{◌≡◌, refl, ap, sym, subst, ◌∙◌}
 use lib.ListN.{length}
 use lib.Dec.{ltb, leb, eqb}
-use Rattle.streaming.specs.Choose.{if◌then◌else◌}
+use Rattle.streaming.specs.Choose.{when◌then◌else◌}
 use Rattle.streaming.specs.State.{refused_by}
 use Rattle.streaming.specs.declared.Request.{Request}
 use Rattle.streaming.specs.declared.Fault.{Fault}
@@ -62,7 +62,7 @@ pub data Refuses (s : FlatWalker) (e : StreamError) : Type 0 where
   unfit : is_sound s.failure ≡ true → fit_of s ≡ false → e ≡ error.BadState → Refuses s e
 
 pub refuses : (s : FlatWalker) (e : StreamError) → request_of s ≡ asked.Refused e → Refuses s e
-unfolding request_of if◌then◌else◌
+unfolding request_of when◌then◌else◌
 refuses s e q = by_failure s.failure refl q
   where
     by_fit : is_sound s.failure ≡ true → (b : Bool) → fit_of s ≡ b → asked_if b (request_at s.stage s) ≡ asked.Refused e → Refuses s e

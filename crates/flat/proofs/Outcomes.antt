@@ -5,7 +5,7 @@ use mathlib.Core.List.{List}
 use mathlib.Core.Option.{Option, none, some}
 use mathlib.Core.Path.{◌≡◌, refl}
 use lib.ListN.{get_or}
-use Rattle.streaming.specs.Choose.{if◌then◌else◌}
+use Rattle.streaming.specs.Choose.{when◌then◌else◌}
 use Rattle.streaming.specs.State.{stepped, fell}
 use Rattle.streaming.specs.declared.FlatHeader.{FlatHeader}
 use Rattle.streaming.specs.declared.Step.{Step}
@@ -44,7 +44,7 @@ module _ {h : FlatHeader} where
   falls : {f : Fault} (t : FlatWalker) → t.header ≡ h → Outcome h (fell f t)
   falls {f} t e = record { header = e; told = (f, refl, refl) }
 
-  either : (t : Bool) {a b : Fed} → Outcome h a → Outcome h b → Outcome h (if t then a else b)
+  either : (t : Bool) {a b : Fed} → Outcome h a → Outcome h b → Outcome h (when t then a else b)
   either t p q = in_both (Outcome h) t (λ e. p) (λ e. q)
 
 -- ---- what is entered

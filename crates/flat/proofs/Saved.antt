@@ -8,7 +8,7 @@ use native.Mathlib.Omega.{arith}
 use lib.ListN.{replicate}
 use lib.Dec.{leb}
 use borrow.Author.Tests.{le-leb}
-use Rattle.streaming.specs.Choose.{if◌then◌else◌}
+use Rattle.streaming.specs.Choose.{when◌then◌else◌}
 use Rattle.streaming.specs.State.{at_entry}
 use Rattle.streaming.specs.declared.Locator.{Locator}
 use Rattle.streaming.specs.declared.FlatHeader.{FlatHeader}
@@ -86,12 +86,12 @@ oversized =
     }
 
 pub oversized_consistent : consistent_of oversized ≡ true
-unfolding consistent_of start_refusal is_outside locator_of first_of object_consistent in_chunk behind_entry object_done map_end may_start may_end if◌then◌else◌
+unfolding consistent_of start_refusal is_outside locator_of first_of object_consistent in_chunk behind_entry object_done map_end may_start may_end when◌then◌else◌
 oversized_consistent = refl
 
 pub oversized_unfit : fit_of oversized ≡ false
 unfolding fit_of start_refusal is_outside locator_of first_of fit_object size_in_words object_consistent in_chunk behind_entry object_done map_end may_start may_end
-    if◌then◌else◌
+    when◌then◌else◌
 oversized_unfit = refl
 
 -- ---- and a walk goes on from a state that passes to one that does not: eight bytes of a delta are behind, and a ninth is continued
@@ -117,15 +117,15 @@ abbrev pub nine_bytes : FlatWalker
 nine_bytes = (feed_of eight_bytes 210 (0x80 ∷ [])).state
 
 pub eight_consistent : consistent_of eight_bytes ≡ true
-unfolding consistent_of start_refusal is_outside locator_of first_of entry_consistent at_byte in_chunk map_end if◌then◌else◌
+unfolding consistent_of start_refusal is_outside locator_of first_of entry_consistent at_byte in_chunk map_end when◌then◌else◌
 eight_consistent = refl
 
 pub nine_inconsistent : consistent_of nine_bytes ≡ false
 unfolding consistent_of fit_of start_refusal is_outside locator_of first_of entry_consistent fit_entry at_byte in_chunk map_end feed_of request_of request_entry
-    feed_entry settle_group more_groups bits_of if◌then◌else◌
+    feed_entry settle_group more_groups bits_of when◌then◌else◌
 nine_inconsistent = refl
 
 pub nine_fit : fit_of nine_bytes ≡ true
 unfolding fit_of start_refusal is_outside locator_of first_of fit_entry at_byte in_chunk map_end feed_of request_of request_entry feed_entry settle_group more_groups
-    bits_of if◌then◌else◌
+    bits_of when◌then◌else◌
 nine_fit = refl

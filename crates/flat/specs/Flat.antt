@@ -1,6 +1,6 @@
 -- The walk by calls: what the contracts of `start`, `request`, `feed` and `end_of_input` cite.
 use Rattle.std.specs.Prelude.{ℕ, Bool, ◌&&◌, List, length, get_or, replicate, ltb, leb, eqb}
-use Rattle.streaming.specs.Choose.{if◌then◌else◌}
+use Rattle.streaming.specs.Choose.{when◌then◌else◌}
 use Rattle.streaming.specs.State.{at_chunk, refused_by}
 use Rattle.streaming.specs.declared.FlatHeader.{FlatHeader}
 use Rattle.streaming.specs.declared.Request.{Request}
@@ -59,7 +59,7 @@ request_at stage.Done s = asked.Nothing
 
 -- what a fit state asks for, and 19 for any other
 abbrev pub asked_if : (fit : Bool) → Asked → Asked
-asked_if fit q = if fit then q else asked.Refused error.BadState
+asked_if fit q = when fit then q else asked.Refused error.BadState
 
 -- the held failure, then 19, then the stage
 abbrev pub request_in : Failure → FlatWalker → Asked
@@ -86,8 +86,8 @@ feed_at stage.Done s piece = refused_by error.Finished s
 -- a demand's own refusals: 4, then 5; else what the piece does
 abbrev pub offered_to : Request → FlatWalker → (offset : ℕ) (piece : List ℕ) → Fed → Fed
 offered_to r s offset piece taken =
-    if eqb offset r.offset then
-    (if ltb 0 (length piece) && leb (length piece) r.len then taken
+    when eqb offset r.offset then
+    (when ltb 0 (length piece) && leb (length piece) r.len then taken
     else refused_by (error.InvalidFeed r.len (length piece)) s)
     else refused_by (error.WrongOffset r.offset offset) s
 

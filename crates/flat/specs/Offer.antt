@@ -1,6 +1,6 @@
 -- Whether a piece is taken: what the code tests before a stage sees the piece.
-use Rattle.std.specs.Prelude.{ℕ, ◌≤◌, ◌<◌, Bool, ◌&&◌, List, length, get_or, ltb, leb, eqb}
-use Rattle.streaming.specs.Choose.{if◌then◌else◌}
+use Rattle.std.specs.Prelude.{ℕ, ◌≤◌, ◌<◌, Bool, ◌&&◌, List, get_or, ltb, leb, eqb}
+use Rattle.streaming.specs.Choose.{when◌then◌else◌}
 use Rattle.streaming.specs.State.{refused_by}
 use Rattle.streaming.specs.declared.Request.{Request}
 use Rattle.streaming.specs.declared.StreamError.TheVariants as error
@@ -23,8 +23,8 @@ use Rattle.flat.specs.declared.feeding.Offer.TheVariants as offer
 -- 4, then 5
 unfoldable pub offer_of : Request → (offset size : ℕ) → Offer
 offer_of r offset size =
-    if eqb offset r.offset then
-    (if ltb 0 size && leb size r.len then offer.Taken else offer.Refused (error.InvalidFeed r.len size))
+    when eqb offset r.offset then
+    (when ltb 0 size && leb size r.len then offer.Taken else offer.Refused (error.InvalidFeed r.len size))
     else offer.Refused (error.WrongOffset r.offset offset)
 
 -- a piece that is taken has a first byte, and is no longer than the demand
@@ -34,7 +34,7 @@ Fits (offer.Refused e) r size = Unit {0}
 
 -- what a fit state does with a piece that is offered; any other state answers 19
 abbrev pub fed_if : (fit : Bool) → Request → FlatWalker → (offset : ℕ) (piece : List ℕ) → Fed → Fed
-fed_if fit r s offset piece taken = if fit then offered_to r s offset piece taken else refused_by error.BadState s
+fed_if fit r s offset piece taken = when fit then offered_to r s offset piece taken else refused_by error.BadState s
 
 abbrev pub fed_at : Stage → FlatWalker → (offset : ℕ) (piece : List ℕ) → Fed
 fed_at stage.Vars s offset piece = fed_if (fit_section s) (request_section s) s offset piece (feed_section s piece)

@@ -2,7 +2,7 @@
 #![tactic(auto)]
 
 ghost use Rattle.std.specs.Prelude.{◌≡◌, true, length, ◌≤◌};
-ghost use Rattle.streaming.specs.Choose.{if◌then◌else◌};
+ghost use Rattle.streaming.specs.Choose.{when◌then◌else◌};
 ghost use Rattle.streaming.specs.State.{refused_by};
 ghost use Rattle.streaming.specs.declared.StreamError.TheVariants as error;
 ghost use Rattle.streaming.specs.declared.Asked.TheVariants as asked;

@@ -4,7 +4,7 @@ use mathlib.Core.Bool.{true, false}
 use mathlib.Core.List.{List, [], ◌∷◌, ◌++◌}
 use mathlib.Core.Path.{◌≡◌, refl}
 use lib.ListN.{replicate}
-use Rattle.streaming.specs.Choose.{if◌then◌else◌}
+use Rattle.streaming.specs.Choose.{when◌then◌else◌}
 use Rattle.octets.specs.Octets.{little_endian}
 use Rattle.form.specs.Form.{stands, none_zero, first_cuts, is_form, locator_in, header_in, cuts_in, form_in, form_of}
 
@@ -24,11 +24,11 @@ taken = refl
 -- the cuts are 513 and 5, and the source begins at 35
 pub says : ((form_of (input two_cuts)).header.count ≡ 1) × ((form_of (input two_cuts)).header.length ≡ 2) × ((form_of (input two_cuts)).source ≡ 35)
     × ((form_of (input two_cuts)).cuts.count ≡ 2) × ((form_of (input two_cuts)).cuts.sizes ≡ 513 ∷ 5 ∷ replicate 62 0)
-unfolding form_of form_in header_in cuts_in first_cuts is_form stands none_zero little_endian if◌then◌else◌
+unfolding form_of form_in header_in cuts_in first_cuts is_form stands none_zero little_endian when◌then◌else◌
 says = (refl, refl, refl, refl, refl)
 
 pub located : (locator_in (input two_cuts) 0 ≡ record { number = 2; offset = 258; size = 3 }) × (locator_in (input two_cuts) 1 ≡ record { number = 0; offset = 0; size = 0 })
-unfolding locator_in little_endian if◌then◌else◌
+unfolding locator_in little_endian when◌then◌else◌
 located = (refl, refl)
 
 -- a byte behind the source, and a cut of 0

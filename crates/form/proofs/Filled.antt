@@ -1,7 +1,7 @@
 -- Arrays that are filled from their front: six bytes at once, and the cuts one by one.
-use Prim.Native.Nat.{ℕ, zero, suc, ◌+◌, ◌-◌, ◌≤◌}
+use Prim.Native.Nat.{ℕ, zero, suc, ◌+◌, ◌≤◌}
 use mathlib.Core.Path.{◌≡◌, refl, sym, ap, ◌∙◌}
-use mathlib.Core.List.{List, [], ◌∷◌, ◌++◌}
+use mathlib.Core.List.{List, [], ◌∷◌}
 use lib.ListN.{length, set, take, drop, length-take, length-drop, length-append}
 use lib.Seq.{sets, length-sets, take_all}
 use native.Mathlib.Numerals.{add-one}

@@ -8,7 +8,7 @@ use lib.Seq.{sets, sets-eq, get_or-append_seam}
 use lib.Dec.{ltb}
 use native.Mathlib.Omega.{arith}
 use borrow.Author.Tests.{ltb-true, ltb-false}
-use Rattle.streaming.specs.Choose.{if◌then◌else◌}
+use Rattle.streaming.specs.Choose.{when◌then◌else◌}
 use Rattle.form.specs.Form.{count_at, cuts_at, cut_in, first_cuts, is_form, header_in, cuts_in, form_in, no_form, form_of, Given}
 use Rattle.form.proofs.Zeros.{each-some}
 use Rattle.form.proofs.Filled.{length-first_cuts}
@@ -42,15 +42,15 @@ module _ (s : List ℕ) (at : ℕ) where
 
 -- an input that is in the form
 pub in_form : (s : List ℕ) → (form_of s).good ≡ true → is_form s ≡ true
-unfolding form_of if◌then◌else◌
+unfolding form_of when◌then◌else◌
 in_form s e = split (is_form s) refl e
   where
-    split : (b : Bool) → is_form s ≡ b → (if b then form_in s else no_form).good ≡ true → b ≡ true
+    split : (b : Bool) → is_form s ≡ b → (when b then form_in s else no_form).good ≡ true → b ≡ true
     split true v h = refl
     split false v h = h
 
 pub given : (s : List ℕ) → (form_of s).good ≡ true → Given s (form_of s)
-unfolding form_of form_in header_in cuts_in if◌then◌else◌
+unfolding form_of form_in header_in cuts_in when◌then◌else◌
 given s e =
     let good : is_form s ≡ true = in_form s e in
     let p : Parts s = form_parts s good in

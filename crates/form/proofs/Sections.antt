@@ -6,7 +6,7 @@ use mathlib.Core.List.{List}
 use lib.ListN.{length}
 use native.Mathlib.Omega.{arith}
 use borrow.Author.Tests.{le-leb, lt-leb}
-use Rattle.streaming.specs.Choose.{if◌then◌else◌}
+use Rattle.streaming.specs.Choose.{when◌then◌else◌}
 use Rattle.streaming.proofs.Cases.{shown}
 use Rattle.form.specs.Form.{count_at, behind, stands}
 
@@ -46,10 +46,10 @@ module _ (s : List ℕ) (at size least most : ℕ) where
 
   -- the place behind a section, or 0 where none stands
   abbrev pub place_behind : ℕ
-  place_behind = if stands s at size least most then behind s at size else 0
+  place_behind = when stands s at size least most then behind s at size else 0
 
   pub none_stands : (r : ℕ) → r ≡ place_behind → r ≡ 0 → stands s at size least most ≡ false
-  unfolding if◌then◌else◌
+  unfolding when◌then◌else◌
   none_stands r e z = split (stands s at size least most) refl
     where
       split : (b : Bool) → stands s at size least most ≡ b → b ≡ false
@@ -57,7 +57,7 @@ module _ (s : List ℕ) (at size least most : ℕ) where
       split true v = absurd (omega (arith, rw v at e))
 
   pub one_stands : (r : ℕ) → r ≡ place_behind → (r ≡ 0 → ⊥) → (stands s at size least most ≡ true) × (r ≡ behind s at size)
-  unfolding if◌then◌else◌
+  unfolding when◌then◌else◌
   one_stands r e z = split (stands s at size least most) refl
     where
       split : (b : Bool) → stands s at size least most ≡ b → (b ≡ true) × (r ≡ behind s at size)

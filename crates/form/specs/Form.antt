@@ -1,7 +1,7 @@
 -- The driver's input form (document 01, "Driver"): four sections in order, each behind its count of four bytes; and what an input in that form says.
 use Rattle.std.specs.Prelude.{ℕ, zero, suc, ◌+◌, ◌*◌, ◌≤◌, ◌<◌, Bool, true, false, ◌&&◌, List, [], ◌∷◌, ◌++◌, ◌≡◌, length, take, drop, get_or, replicate, eqb, ltb, leb}
 use Rattle.std.proofs.lemmas.List.Edits.{sets}
-use Rattle.streaming.specs.Choose.{if◌then◌else◌}
+use Rattle.streaming.specs.Choose.{when◌then◌else◌}
 use Rattle.streaming.specs.declared.Locator.{Locator}
 use Rattle.streaming.specs.declared.FlatHeader.{FlatHeader}
 use Rattle.octets.specs.Octets.{little_endian}
@@ -77,7 +77,7 @@ blank_locator = record { number = 0; offset = 0; size = 0 }
 
 -- the locator of an index; those behind the counted ones are blank
 unfoldable pub locator_in : List ℕ → (i : ℕ) → Locator
-locator_in s i = if ltb i (count_at s 0) then locator_at s (4 + 9 * i) else blank_locator
+locator_in s i = when ltb i (count_at s 0) then locator_at s (4 + 9 * i) else blank_locator
 
 -- the header that it hands over; its length is the source's
 unfoldable pub header_in : List ℕ → FlatHeader
@@ -111,7 +111,7 @@ unfoldable pub form_in : List ℕ → Form
 form_in s = record { good = true; header = header_in s; cuts = cuts_in s; source = source_at s + 4 }
 
 unfoldable pub form_of : List ℕ → Form
-form_of s = if is_form s then form_in s else no_form
+form_of s = when is_form s then form_in s else no_form
 
 -- ---- what it gives to whoever walks it
 

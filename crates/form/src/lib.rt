@@ -3,7 +3,7 @@
 
 ghost use Rattle.std.specs.Prelude.{◌≡◌, ◌+◌, ◌*◌, ◌<◌, ◌≤◌, length, take, drop, replicate};
 ghost use Rattle.std.proofs.lemmas.List.Edits.{sets};
-ghost use Rattle.streaming.specs.Choose.{if◌then◌else◌};
+ghost use Rattle.streaming.specs.Choose.{when◌then◌else◌};
 ghost use Rattle.form.specs.Form.{number_at, count_at, behind, stands, magic_at, source_at, none_zero, first_cuts, Held, is_form, locator_in, header_in, form_in, no_form, form_of};
 
 use octets::{copy_in, number_at};
@@ -35,7 +35,7 @@ fn count_at(s: &[u8], at: usize) -> usize
 // The place behind the section that stands at a place, or 0 where none does.
 fn behind(s: &[u8], at: usize, size: usize, least: usize, most: usize) -> usize
     requires { (at ≤ length s.now) × (length s.now ≤ 60000) × (size ≤ 9) × (most ≤ 60000) }
-    ensures { (result ≡ if stands s.now at size least most then behind s.now at size else 0) × (result ≤ length s.now) }
+    ensures { (result ≡ when stands s.now at size least most then behind s.now at size else 0) × (result ≤ length s.now) }
 {
     if s.len() < at + 4 {
         return 0;

@@ -1,6 +1,6 @@
 -- Bounds of what any header that code is handed says: a locator's offset and size are u32, so the map ends below 2^33.
 -- For `search (needs, map_end_below)`, which finds the header among what a need is handed.
-use Prim.Native.Nat.{ℕ, zero, suc, ◌<◌, ◌^◌, ◌+◌}
+use Prim.Native.Nat.{ℕ, zero, suc, ◌<◌, ◌^◌}
 use native.Mathlib.Omega.{arith}
 use mathlib.Core.List.{List, [], ◌∷◌}
 use lib.ListN.{take}
@@ -9,7 +9,6 @@ use mir.Val.{Val}
 use denote.Array.{each}
 use denote.Shadow.{shadow}
 use Rattle.streaming.specs.contracts.Locator.{the_row}
-use Rattle.streaming.specs.Choose.{if◌then◌else◌}
 use Rattle.streaming.proofs.Choose.{in_both}
 use Rattle.streaming.specs.declared.Locator.{Locator}
 use Rattle.streaming.specs.declared.FlatHeader.{FlatHeader}

@@ -1,15 +1,12 @@
 -- Laws of a locator's look-up: what one step of a search from the front learns.
-use Prim.Native.Nat.{ℕ, suc, ◌+◌, ◌<◌, ◌≤◌}
-use mathlib.Core.Path.{◌≡◌, refl, ap, sym, ◌∙◌}
+use Prim.Native.Nat.{ℕ, ◌+◌, ◌<◌, ◌≤◌}
+use mathlib.Core.Path.{◌≡◌, ap, sym, ◌∙◌}
 use mathlib.Core.Logic.{◌⊎◌, ⊎_elim}
 use native.Mathlib.Omega.{arith}
-use native.Mathlib.Nat.{le-min, min-le_left, min-le_right, le_trans}
-use mathlib.Core.List.{List, [], ◌∷◌}
-use mathlib.Core.Bool.{Bool, true, false}
+use mathlib.Core.List.{List}
 use lib.ListN.{length, take, drop, get_or, length-take, drop_of_length-le}
 use lib.Seq.{drop-cons, get_or-take}
-use lib.Dec.{eqb}
-use Rattle.streaming.specs.Choose.{if◌then◌else◌}
+use Rattle.streaming.specs.Choose.{when◌then◌else◌}
 use native.Mathlib.Numerals.{add-one}
 use borrow.Author.Tests.{eq-eqb, ne_eqb}
 use Rattle.rules.specs.Header.{first_of, locator_of}
@@ -21,15 +18,15 @@ missing = record { number = 0; offset = 0; size = 0 }
 
 module _ (n : ℕ) (ls : List Locator) (i : ℕ) (h : i < length ls) where
   pub first_here : (get_or ls i missing).number ≡ n → first_of n (drop i ls) ≡ get_or ls i missing
-  unfolding first_of if◌then◌else◌
+  unfolding first_of when◌then◌else◌
   first_here e = rw (drop-cons ls i missing) (simp (eq-eqb _ _ e))
 
   pub first_past : ((get_or ls i missing).number ≡ n → ⊥) → first_of n (drop (i + 1) ls) ≡ first_of n (drop i ls)
-  unfolding first_of if◌then◌else◌
+  unfolding first_of when◌then◌else◌
   first_past e = rw (add-one, drop-cons ls i missing) (simp (ne_eqb _ _ e))
 
 pub first_end : (n : ℕ) (ls : List Locator) (i : ℕ) → length ls ≤ i → first_of n (drop i ls) ≡ missing
-unfolding first_of if◌then◌else◌
+unfolding first_of when◌then◌else◌
 first_end n ls i h = rw (drop_of_length-le ls h)
 
 -- The same of a header's counted locators.

@@ -6,13 +6,13 @@ use mathlib.Core.Logic.{◌⊎◌, inl, inr}
 use lib.ListN.{length, set, take, drop, get_or, length-append, length-take}
 use lib.Seq.{take-suc, take_all, take_at, take-suc-set, sets, sets-eq}
 use mathlib.Core.Bool.{Bool, true, false}
-use lib.Dec.{ltb, leb}
+use lib.Dec.{leb}
 use native.Mathlib.Nat.{pow-succ', pow-le-pow_right, mod-eq_of_lt, mod-lt, one-le-pow}
 use native.Mathlib.Numerals.{add-one}
 use native.Mathlib.Omega.{arith}
 use borrow.Author.Tests.{lt-ltb, le-ltb, leb-true, leb-false}
 use Rattle.io.specs.Digits.{hex_digit_ascii, last_digits, IsDigitCount}
-use Rattle.streaming.specs.Choose.{if◌then◌else◌}
+use Rattle.streaming.specs.Choose.{when◌then◌else◌}
 use Rattle.lines.specs.Line.{digits_in, decimal_of, spaced, line_of}
 
 -- ---- decimal text
@@ -24,7 +24,7 @@ least : (k n : ℕ) → IsDigitCount 10 1 n (suc (suc k)) → 10 ^ suc k ≤ n
 least k n f = let e : suc (suc k) - 1 ≡ suc k = omega arith in rw e at (f.2 (omega arith))
 
 pub few_digits : (k n steps : ℕ) → n ≤ steps → IsDigitCount 10 1 n (suc k) → last_digits 10 (suc k) n ≡ digits_in steps n
-unfolding digits_in if◌then◌else◌
+unfolding digits_in when◌then◌else◌
 few_digits zero n zero h f = let e : n % 10 ≡ n = mod-eq_of_lt (omega arith) in rw (glyph_digit n, e)
 few_digits zero n (suc steps) h f = let e : n % 10 ≡ n = mod-eq_of_lt f.1 in rw (lt-ltb n 10 f.1, glyph_digit n, e)
 few_digits (suc k) n zero h f = let l : 10 ^ suc k ≤ n = least k n f in absurd (omega (arith, one-le-pow (suc k) 10 (omega arith)))

@@ -1,6 +1,6 @@
 -- A number as decimal text, and a line of output.
 use Rattle.std.specs.Prelude.{ℕ, zero, suc, ◌+◌, ◌/◌, ◌%◌, List, [], ◌∷◌, ◌++◌, take, ltb}
-use Rattle.streaming.specs.Choose.{if◌then◌else◌}
+use Rattle.streaming.specs.Choose.{when◌then◌else◌}
 use Rattle.streaming.specs.Numbers.{part_number, number_of, fields_of, fault_number, fault_fields}
 use Rattle.streaming.specs.declared.SectionRecord.{SectionRecord}
 use Rattle.streaming.specs.declared.ObjectRecord.{ObjectRecord}
@@ -11,7 +11,7 @@ use Rattle.lines.specs.declared.Line.{Line}
 -- the digits of n: those of n / 10, and then its last one; 48 is the code of the digit 0
 unfoldable pub digits_in : (steps n : ℕ) → List ℕ
 digits_in zero n = (48 + n) ∷ []
-digits_in (suc steps) n = if ltb n 10 then ((48 + n) ∷ []) else (digits_in steps (n / 10) ++ ((48 + n % 10) ∷ []))
+digits_in (suc steps) n = when ltb n 10 then ((48 + n) ∷ []) else (digits_in steps (n / 10) ++ ((48 + n % 10) ∷ []))
 
 -- each step leaves a smaller number, so n steps are enough
 unfoldable pub decimal_of : ℕ → List ℕ

@@ -6,9 +6,10 @@ use mathlib.Core.List.{List, ◌++◌, append_assoc}
 use native.Mathlib.Omega.{arith}
 use lib.ListN.{length, drop, replicate, length-replicate}
 use lib.Seq.{drop-append_seam}
+use Rattle.std.proofs.lemmas.List.{replicate-append-replicate, drop-replicate}
 use lib.Dec.{leb}
 use borrow.Author.Tests.{leb-true, leb-false, le-leb, lt-leb}
-use Rattle.streaming.specs.Choose.{if◌then◌else◌}
+use Rattle.streaming.specs.Choose.{when◌then◌else◌}
 use Rattle.streaming.specs.declared.FlatHeader.{FlatHeader}
 use Rattle.streaming.specs.declared.ObjectRecord.{ObjectRecord}
 use Rattle.survey.specs.Survey.{listed, survey_of}
@@ -16,21 +17,15 @@ use Rattle.survey.specs.declared.Walked.{Walked}
 use Rattle.oneshot.specs.OneShot.{with_room, objects_for, front_of}
 use Rattle.oneshot.proofs.Either.{either}
 use Rattle.listing.specs.Listing.{mark, is_mark, marked}
-use Rattle.listing.proofs.Marked.{replicate-sum, replicate_cut}
 
 all_marked : (n : ℕ) → marked (replicate n mark) ≡ n
-unfolding marked is_mark if◌then◌else◌
+unfolding marked is_mark when◌then◌else◌
 all_marked zero = refl
 all_marked (suc n) = ap suc (all_marked n)
 
-marks_behind : (n k : ℕ) → n ≤ k → drop n (replicate k mark) ≡ replicate (k - n) mark
-marks_behind n k h =
-    ap (drop n) (replicate_cut n k mark h) ∙ ap (λ (j : ℕ). drop j (replicate n mark ++ replicate (k - n) mark)) (sym (length-replicate n mark))
-    ∙ drop-append_seam (replicate n mark) (replicate (k - n) mark)
-
 -- two runs of marks are one
 marks_joined : (a b : ℕ) → marked (replicate a mark ++ replicate b mark) ≡ a + b
-marks_joined a b = ap marked (sym (replicate-sum a b mark)) ∙ all_marked (a + b)
+marks_joined a b = ap marked (replicate-append-replicate a b mark) ∙ all_marked (a + b)
 
 module _ (w : Walked) (l : List ObjectRecord) (k most : ℕ) (counted : w.count ≡ length l) (fits : k ≤ most) where
   abbrev rest : List ObjectRecord
@@ -40,12 +35,12 @@ module _ (w : Walked) (l : List ObjectRecord) (k most : ℕ) (counted : w.count 
   with_room_lem room =
       let behind : marked (drop (length l) ((l ++ drop (length l) (replicate k mark)) ++ rest)) ≡ (k - length l) + (most - k) =
       ap (λ (z : List ObjectRecord). marked (drop (length l) z)) (append_assoc l (drop (length l) (replicate k mark)) rest)
-      ∙ ap marked (drop-append_seam l (drop (length l) (replicate k mark) ++ rest)) ∙ ap (λ (z : List ObjectRecord). marked (z ++ rest)) (marks_behind (length l) k room)
+      ∙ ap marked (drop-append_seam l (drop (length l) (replicate k mark) ++ rest)) ∙ ap (λ (z : List ObjectRecord). marked (z ++ rest)) (drop-replicate (length l) k mark)
       ∙ marks_joined (k - length l) (most - k) in
       omega (arith, behind, room, fits)
 
   pub rest-marked : (with_room k w).count + marked (drop (with_room k w).count (front_of (replicate k mark) l ++ rest)) ≡ most
-  unfolding with_room front_of if◌then◌else◌
+  unfolding with_room front_of when◌then◌else◌
   rest-marked = split (leb w.count k) refl
     where
       split : (b : Bool) → leb w.count k ≡ b → (with_room k w).count + marked (drop (with_room k w).count (front_of (replicate k mark) l ++ rest)) ≡ most

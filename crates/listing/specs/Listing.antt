@@ -1,6 +1,6 @@
 -- The walk's list where it is the function's own: every place marked, and the first ones lent.
 use Rattle.std.specs.Prelude.{ℕ, suc, ◌-◌, Bool, ◌&&◌, List, [], ◌∷◌, ◌++◌, replicate, eqb}
-use Rattle.streaming.specs.Choose.{if◌then◌else◌}
+use Rattle.streaming.specs.Choose.{when◌then◌else◌}
 use Rattle.streaming.specs.declared.FlatHeader.{FlatHeader}
 use Rattle.streaming.specs.declared.ObjectRecord.{ObjectRecord}
 use Rattle.oneshot.specs.OneShot.{list_after}
@@ -25,4 +25,4 @@ is_mark r = eqb r.handle 1 && eqb r.offset 2 && eqb r.size 0 && eqb r.type_code 
 -- how many places of a list hold the mark before the first that does not
 unfoldable pub marked : List ObjectRecord → ℕ
 marked [] = 0
-marked (r ∷ rs) = if is_mark r then suc (marked rs) else 0
+marked (r ∷ rs) = when is_mark r then suc (marked rs) else 0

@@ -6,7 +6,7 @@ use native.Mathlib.Nat.{pow-le-pow_right}
 use native.Mathlib.Omega.{arith}
 use lib.Dec.{eqb}
 use borrow.Author.Tests.{eqb-true, eqb-false, ltb-true, lt-ltb, le-ltb, eq-eqb, ne_eqb}
-use Rattle.streaming.specs.Choose.{if◌then◌else◌}
+use Rattle.streaming.specs.Choose.{when◌then◌else◌}
 use Rattle.streaming.specs.declared.FlatWalker.{FlatWalker}
 use Rattle.streaming.proofs.Choose.{in_both}
 use Rattle.object.specs.Fit.{FitObject}
@@ -38,14 +38,14 @@ module _ (s : FlatWalker) (f : FitObject s) where
   -- a piece of n bytes within the demand
   module _ (n : ℕ) (within : n ≤ (request_object s).len) where
     pub word_room : s.ms_len ≡ 0 → s.done % 2 + n ≤ 2
-    unfolding request_object object_end if◌then◌else◌
+    unfolding request_object object_end when◌then◌else◌
     word_room none = omega (arith, rw (eq-eqb _ 0 none) at within)
 
     module _ (some : s.ms_len ≡ 0 → ⊥) where
       pub data_room : s.done < s.ms_len + s.size → s.done + n ≤ s.ms_len + s.size
-      unfolding request_object object_end if◌then◌else◌
+      unfolding request_object object_end when◌then◌else◌
       data_room h = omega (arith, rw (ne_eqb _ 0 some, lt-ltb _ _ h) at within)
 
       pub crc_room : s.ms_len + s.size ≤ s.done → s.done + n ≤ s.ms_len + s.size + 2
-      unfolding request_object object_end if◌then◌else◌
+      unfolding request_object object_end when◌then◌else◌
       crc_room h = omega (arith, f.inside some, rw (ne_eqb _ 0 some, le-ltb _ _ h) at within)

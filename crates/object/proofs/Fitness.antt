@@ -6,7 +6,7 @@ use native.Mathlib.Omega.{arith}
 use lib.Dec.{eqb}
 use borrow.Author.Tests.{eq-eqb, ne_eqb}
 use Rattle.streaming.specs.declared.FlatWalker.{FlatWalker}
-use Rattle.streaming.specs.Choose.{if◌then◌else◌}
+use Rattle.streaming.specs.Choose.{when◌then◌else◌}
 use Rattle.streaming.proofs.Cases.{shown}
 use Rattle.streaming.proofs.Choose.{in_both}
 use Rattle.rules.specs.Object.{may_start, may_end}
@@ -73,11 +73,11 @@ record BehindWords (s : FlatWalker) : Type 0 where
   high : s.done < s.ms_len + s.size + 2
 
 in_words : (s : FlatWalker) → object_done s ≡ true → s.ms_len ≡ 0 → InWords s
-unfolding object_done if◌then◌else◌
+unfolding object_done when◌then◌else◌
 in_words s e z = let k = rw (eq-eqb _ _ z) at e in search shown
 
 behind-words : (s : FlatWalker) → object_done s ≡ true → (s.ms_len ≡ 0 → ⊥) → BehindWords s
-unfolding object_done if◌then◌else◌
+unfolding object_done when◌then◌else◌
 behind-words s e n = let k = rw (ne_eqb _ _ n) at e in search shown
 
 pub fit_object_shows : (s : FlatWalker) → fit_object s ≡ true → FitObject s

@@ -1,6 +1,6 @@
 -- Which states of stage Object a walk can reach.
 use Rattle.std.specs.Prelude.{◌+◌, ◌*◌, ◌-◌, ◌^◌, ◌≤◌, ◌<◌, Bool, true, ◌&&◌, ◌≡◌, ltb, leb, eqb}
-use Rattle.streaming.specs.Choose.{if◌then◌else◌}
+use Rattle.streaming.specs.Choose.{when◌then◌else◌}
 use Rattle.streaming.specs.declared.FlatWalker.{FlatWalker}
 use Rattle.rules.specs.Object.{may_start, may_end}
 use Rattle.chunk.specs.Fit.{in_chunk, InChunk}
@@ -17,7 +17,7 @@ behind_entry s =
 -- how far the object is: in its size words, or behind them with a size that fits the source
 unfoldable pub object_done : FlatWalker → Bool
 object_done s =
-    if eqb s.ms_len 0 then leb s.words 1 && (leb (2 * s.words) s.done && ltb s.done (2 * s.words + 2))
+    when eqb s.ms_len 0 then leb s.words 1 && (leb (2 * s.words) s.done && ltb s.done (2 * s.words + 2))
     else (leb 1 s.words && leb s.words 2 && eqb s.ms_len (2 * s.words) && ltb 0 s.size)
     && (may_end s.header s.object (s.object + s.ms_len + s.size + 2)
     && leb s.ms_len s.done && ltb s.done (s.ms_len + s.size + 2))

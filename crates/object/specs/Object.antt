@@ -5,7 +5,7 @@ use Rattle.std.proofs.lemmas.List.Edits.{sets}
 use Rattle.std.specs.Int.Bits.{bit_or}
 use Rattle.crc.specs.Crc.{crc_of}
 use Rattle.octets.specs.Octets.{little_endian}
-use Rattle.streaming.specs.Choose.{if◌then◌else◌}
+use Rattle.streaming.specs.Choose.{when◌then◌else◌}
 use Rattle.streaming.specs.State.{in_unit, with_object, stepped, goes_on, fell}
 use Rattle.streaming.specs.declared.Request.{Request}
 use Rattle.streaming.specs.declared.Part.TheVariants as part
@@ -27,21 +27,21 @@ use Rattle.object.specs.declared.verdict.Judged.TheVariants as judged
 -- an object is entered at once: a location where none may start is answered by the call that brings it
 unfoldable pub enter_object : FlatWalker → (location : ℕ) → Fed
 enter_object s location =
-    if may_start s.header location then
+    when may_start s.header location then
     stepped step.Framing (with_object (in_unit s stage.Object 0 0 seed s.field) s.head location 0 0)
     else fell (fault.ObjectRange s.map.handle location) s
 
 -- behind an object the next entry, or the next chunk, 2 bytes of checksum later
 unfoldable pub leave_object : FlatWalker → FlatWalker
 leave_object s =
-    if eqb s.map.at (s.map.chunk + s.map.len) then enter_chunk s (s.map.at + 2)
+    when eqb s.map.at (s.map.chunk + s.map.len) then enter_chunk s (s.map.at + 2)
     else in_unit s stage.Entry s.done s.size s.crc s.field
 
 -- ---- what is asked for
 
 -- where the demand ends: a word of the size, the data, the checksum
 unfoldable pub object_end : (done size ms_len : ℕ) → ℕ
-object_end done size ms_len = if eqb ms_len 0 then done - done % 2 + 2 else if ltb done (ms_len + size) then ms_len + size else ms_len + size + 2
+object_end done size ms_len = when eqb ms_len 0 then done - done % 2 + 2 else when ltb done (ms_len + size) then ms_len + size else ms_len + size + 2
 
 unfoldable pub request_object : FlatWalker → Request
 request_object s = record { offset = s.object + s.done; len = object_end s.done s.size s.ms_len - s.done }
@@ -61,8 +61,8 @@ module _ (s : FlatWalker) where
   -- the size is known, and with it the object's end
   unfoldable pub settle_object_size : (done size crc : ℕ) (field : List ℕ) → Fed
   settle_object_size done size crc field =
-      if ltb 0 size then
-      (if may_end s.header s.object (s.object + done + size + 2) then
+      when ltb 0 size then
+      (when may_end s.header s.object (s.object + done + size + 2) then
       stepped step.Framing (with_object (in_unit s s.stage done size crc field) s.head s.object done (s.words + 1))
       else fell (fault.ObjectRange s.map.handle s.object) s)
       else fell (fault.ObjectSize s.map.handle) s
@@ -71,8 +71,8 @@ module _ (s : FlatWalker) where
   unfoldable pub settle_word : (done crc : ℕ) (field : List ℕ) (word : ℕ) → Fed
   settle_word done crc field word =
       let size = bit_or s.size (word % 0x8000 * 2 ^ (15 * s.words)) in
-      if is_last word then settle_object_size done size crc field
-      else if eqb s.words 0 then
+      when is_last word then settle_object_size done size crc field
+      else when eqb s.words 0 then
       stepped step.Framing (with_object (in_unit s s.stage done size crc field) s.head s.object 0 1)
       else fell (fault.ObjectSize s.map.handle) s
 
@@ -84,7 +84,7 @@ module _ (s : FlatWalker) where
   -- the checksum is whole: then the prologue decides
   unfoldable pub settle_object_crc : (field : List ℕ) (stored : ℕ) → Fed
   settle_object_crc field stored =
-      if eqb stored s.crc then
+      when eqb stored s.crc then
       settle_verdict field (named s.map.handle s.object s.size (kept_prologue s))
       else fell (fault.ObjectCrc s.map.handle s.crc stored) s
 
@@ -94,7 +94,7 @@ module _ (s : FlatWalker) where
         let crc = crc_of s.crc piece in
         let field = sets s.field (s.done % 2) piece in
         let done = s.done + length piece in
-        if eqb (done % 2) 0 then settle_word done crc field (little_endian (take 2 field))
+        when eqb (done % 2) 0 then settle_word done crc field (little_endian (take 2 field))
         else goes_on s done s.size crc field
 
     -- the first 16 bytes are kept for the prologue
@@ -108,11 +108,11 @@ module _ (s : FlatWalker) where
     unfoldable pub feed_object_crc : Fed
     feed_object_crc =
         let field = sets s.field (s.done - (s.ms_len + s.size)) piece in
-        if eqb (s.done + length piece) (s.ms_len + s.size + 2) then settle_object_crc field (little_endian (take 2 field))
+        when eqb (s.done + length piece) (s.ms_len + s.size + 2) then settle_object_crc field (little_endian (take 2 field))
         else goes_on s (s.done + length piece) s.size s.crc field
 
     unfoldable pub feed_object : Fed
     feed_object =
-        if eqb s.ms_len 0 then feed_word
-        else if ltb s.done (s.ms_len + s.size) then feed_object_data
+        when eqb s.ms_len 0 then feed_word
+        else when ltb s.done (s.ms_len + s.size) then feed_object_data
         else feed_object_crc

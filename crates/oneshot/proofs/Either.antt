@@ -6,7 +6,7 @@ use mathlib.Core.Path.{◌≡◌, refl}
 use native.Mathlib.Omega.{arith}
 use lib.ListN.{length}
 use borrow.Author.Tests.{ltb-false, le-ltb}
-use Rattle.streaming.specs.Choose.{if◌then◌else◌}
+use Rattle.streaming.specs.Choose.{when◌then◌else◌}
 use Rattle.streaming.specs.declared.FlatHeader.{FlatHeader}
 use Rattle.streaming.specs.declared.ObjectRecord.{ObjectRecord}
 use Rattle.streaming.specs.declared.StreamError.{StreamError}
@@ -28,7 +28,7 @@ as_long h n e =
     omega (arith, ltb-false h.length n longer.0, ltb-false n h.length shorter.0)
 
 not_refused : (h : FlatHeader) (n : ℕ) → n ≡ h.length → length_refusal h n ≡ none
-unfolding length_refusal if◌then◌else◌
+unfolding length_refusal when◌then◌else◌
 not_refused h n e = rw (le-ltb h.length n (omega arith), le-ltb n h.length (omega arith))
 
 module _ (h : FlatHeader) (src : List ℕ) where

@@ -7,7 +7,7 @@ use native.Mathlib.Omega.{arith}
 use lib.ListN.{length, get_or}
 use lib.Dec.{leb}
 use borrow.Author.Tests.{leb-true, leb-false, le-leb, lt-leb}
-use Rattle.streaming.specs.Choose.{if◌then◌else◌}
+use Rattle.streaming.specs.Choose.{when◌then◌else◌}
 use Rattle.streaming.specs.declared.FlatHeader.{FlatHeader}
 use Rattle.streaming.specs.declared.ObjectRecord.{ObjectRecord}
 use Rattle.streaming.proofs.Choose.{in_both}
@@ -35,7 +35,7 @@ objects_are h src =
 
 module _ (f : ℕ → ObjectRecord) (w : Walked) (l list : List ObjectRecord) (counted : w.count ≡ length l) (given : (i : ℕ) → i < length l → f i ≡ get_or l i blank) where
   room_filled : over f (with_room (length list) w).count list ≡ front_of list l
-  unfolding with_room front_of if◌then◌else◌
+  unfolding with_room front_of when◌then◌else◌
   room_filled = split (leb w.count (length list)) refl
     where
       split : (b : Bool) → leb w.count (length list) ≡ b → over f (with_room (length list) w).count list ≡ front_of list l

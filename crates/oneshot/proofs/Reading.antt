@@ -10,7 +10,7 @@ use lib.Dec.{leb}
 use lib.Seq.{take_all, take-nil, take-take, get_or-drop, drop-drop}
 use borrow.Author.Tests.{leb-true, leb-false}
 use Rattle.octets.specs.Octets.{little_endian}
-use Rattle.streaming.specs.Choose.{if◌then◌else◌}
+use Rattle.streaming.specs.Choose.{when◌then◌else◌}
 use Rattle.account.specs.Statement.{part}
 use Rattle.rules.specs.Prologue.{reading, prologue_of}
 use Rattle.rules.specs.Object.{size_of_words, size_at}
@@ -59,5 +59,5 @@ pub head_least : (r2000 : Bool) (src : List ℕ) (at n : ℕ)
 head_least r2000 src at n = ap (prologue_of r2000) (part-least src at n) ∙ sym (sixteen_enough r2000 (part src at n))
 
 pub head_none : (r2000 : Bool) (src : List ℕ) (at n : ℕ) → length src ≤ at → prologue_of r2000 (take 16 (part src at n)) ≡ none
-unfolding prologue_of reading if◌then◌else◌
+unfolding prologue_of reading when◌then◌else◌
 head_none r2000 src at n h = sym (head_least r2000 src at n) ∙ rw (drop_of_length-le src h, take-nil {A = ℕ} (min n (length src - at)))

@@ -6,7 +6,7 @@ use native.Mathlib.Omega.{arith}
 use lib.ListN.{length, drop}
 use lib.Seq.{take-append_seam}
 use borrow.Author.Tests.{le-leb}
-use Rattle.streaming.specs.Choose.{if◌then◌else◌}
+use Rattle.streaming.specs.Choose.{when◌then◌else◌}
 use Rattle.streaming.specs.Record.{Record, section, object, objects_in}
 use Rattle.streaming.specs.declared.FlatHeader.{FlatHeader}
 use Rattle.streaming.specs.declared.ObjectRecord.{ObjectRecord}
@@ -33,11 +33,11 @@ pub record SameWalk (h : FlatHeader) (src : List ℕ) (list : List ObjectRecord)
 
 module _ (l : Listing) (list : List ObjectRecord) (room : length (objects_of l.records) ≤ length list) where
   roomy : with_room (length list) (listed l) ≡ listed l
-  unfolding with_room listed if◌then◌else◌
+  unfolding with_room listed when◌then◌else◌
   roomy = rw (le-leb (length (objects_of l.records)) (length list) room)
 
   read_all : InOrder l → read_from (listed l) (front_of list (objects_of l.records)) ≡ l.records
-  unfolding listed front_of if◌then◌else◌
+  unfolding listed front_of when◌then◌else◌
   read_all o =
       rw (le-leb (length (objects_of l.records)) (length list) room)
       (ap (λ (os : List ObjectRecord). found (found_at 0 (sections_of l.records)) ++ found (found_at 1 (sections_of l.records)) ++ map object os)
@@ -80,5 +80,5 @@ half_the_map h src =
     λ of. omega (arith, R.half_the_map h src of, objects_counted (plain_list h src).records, ap (λ (l : Listing). objects_in l.records) (R.agree h src of))
 
 pub half_is_enough : (h : FlatHeader) (src : List ℕ) (places : ℕ) → map_size h ≤ 2 * places → with_room places (survey_of h src) ≡ survey_of h src
-unfolding with_room if◌then◌else◌
+unfolding with_room when◌then◌else◌
 half_is_enough h src places e = rw (le-leb (survey_of h src).count places (omega (arith, half_the_map h src)))

@@ -8,7 +8,7 @@ use native.Mathlib.Omega.{arith}
 use lib.ListN.{length, get_or, drop}
 use lib.Dec.{eqb}
 use borrow.Author.Tests.{eq-eqb, ne_eqb, eqb-true, eqb-false, le-leb}
-use Rattle.streaming.specs.Choose.{if◌then◌else◌}
+use Rattle.streaming.specs.Choose.{when◌then◌else◌}
 use Rattle.streaming.specs.declared.Part.{Part}
 use Rattle.streaming.specs.declared.Part.TheVariants.{HeaderVars, Classes}
 use Rattle.streaming.specs.declared.FlatHeader.{FlatHeader}
@@ -116,7 +116,7 @@ module _ (src : List ℕ) where
 
     leads_on : (at handle location n hd loc : ℕ) → at < end → entry_in handle location (bytes at) ≡ leads n hd loc
         → step_of src (within at handle location) ≡ record { object = record_at (is_r2000 h) src hd loc; next = within (at + n) hd loc }
-    unfolding step_of in_hand if◌then◌else◌ visit_of
+    unfolding step_of in_hand when◌then◌else◌ visit_of
     leads_on at handle location n hd loc k e = rw (ne_eqb at end (omega arith), e)
 
     -- the bytes behind an entry
@@ -169,7 +169,7 @@ module _ (src : List ℕ) where
     opens : (chunk at handle location : ℕ) → chunk + chunk_size src chunk + 2 ≤ length src → 2 < chunk_size src chunk
         → step_of src (in_chunk h chunk at at handle location)
         ≡ step_of src (in_chunk h (chunk + chunk_size src chunk + 2) (chunk + chunk_size src chunk) (chunk + 2) 0 0)
-    unfolding step_of in_hand opened_of if◌then◌else◌
+    unfolding step_of in_hand opened_of when◌then◌else◌
     opens chunk at handle location u v = rw (eq-eqb at at refl, le-leb _ _ u, ne_eqb (chunk + 2) (chunk + chunk_size src chunk) (omega arith))
 
     gives_chunk : (chunk at handle location : ℕ) (l : Listing) → chunk + chunk_size src chunk + 2 ≤ length src → 2 < chunk_size src chunk

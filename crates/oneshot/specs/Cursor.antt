@@ -1,6 +1,6 @@
 -- The objects of a map once more, one by one: what an entry leads to, with no check made again.
 use Rattle.std.specs.Prelude.{ℕ, zero, suc, ◌+◌, ◌-◌, Bool, List, length, take, leb, eqb}
-use Rattle.streaming.specs.Choose.{if◌then◌else◌}
+use Rattle.streaming.specs.Choose.{when◌then◌else◌}
 use Rattle.streaming.specs.declared.FlatHeader.{FlatHeader}
 use Rattle.streaming.specs.declared.ObjectRecord.{ObjectRecord}
 use Rattle.account.specs.Statement.{part}
@@ -46,13 +46,13 @@ module _ (src : List ℕ) where
   unfoldable pub opened_of : Cursor → Cursor
   opened_of c =
       let size = chunk_size src c.chunk in
-      if leb (c.chunk + size + 2) (length src) then
+      when leb (c.chunk + size + 2) (length src) then
       record { r2000 = c.r2000; chunk = c.chunk + size + 2; at = c.chunk + 2; end = c.chunk + size; handle = 0; location = 0 }
       else c
 
   -- the chunk with the next entry: a new one where the entries of the last are used up
   unfoldable pub in_hand : Cursor → Cursor
-  in_hand c = if eqb c.at c.end then opened_of c else c
+  in_hand c = when eqb c.at c.end then opened_of c else c
 
   abbrev pub next_entry : Cursor → Entry
   next_entry c = entry_in c.handle c.location (part src c.at (c.end - c.at))

@@ -1,7 +1,7 @@
 -- The one-shot walk: what it answers, and what the lent list holds behind it.
 use Rattle.std.specs.Prelude.{ℕ, List, [], ◌∷◌, ◌++◌, map, length, take, drop, leb}
 use Rattle.std.proofs.Math.Option.{Option, none, some}
-use Rattle.streaming.specs.Choose.{if◌then◌else◌}
+use Rattle.streaming.specs.Choose.{when◌then◌else◌}
 use Rattle.streaming.specs.Record.{Record, section, object}
 use Rattle.streaming.specs.declared.FlatHeader.{FlatHeader}
 use Rattle.streaming.specs.declared.ObjectRecord.{ObjectRecord}
@@ -18,7 +18,7 @@ use Rattle.survey.specs.declared.Walked.{Walked}
 -- More object records than places: 18 with their number, however the walk ends.
 unfoldable pub with_room : (places : ℕ) → Walked → Walked
 with_room places w =
-    if leb w.count places then w
+    when leb w.count places then w
     else record { vars = w.vars; classes = w.classes; count = 0; ending = ended.Refused (error.NoRoom w.count) }
 
 -- ---- the list
@@ -34,7 +34,7 @@ objects_for h src = unless_refused (start_refusal h) (unless_refused (length_ref
 
 -- a list with some records in place of its front; as it was where they are more than it has places
 unfoldable pub front_of : (list records : List ObjectRecord) → List ObjectRecord
-front_of list records = if leb (length records) (length list) then records ++ drop (length records) list else list
+front_of list records = when leb (length records) (length list) then records ++ drop (length records) list else list
 
 abbrev pub list_after : FlatHeader → (src : List ℕ) (list : List ObjectRecord) → List ObjectRecord
 list_after h src list = front_of list (objects_for h src)

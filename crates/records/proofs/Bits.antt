@@ -9,7 +9,7 @@ use lib.Dec.{lit<}
 use lib.ListN.{length}
 use lib.Pow.{pow_pos}
 use borrow.Author.Tests.{lt-ltb, le-ltb, le-leb, lt-leb}
-use Rattle.streaming.specs.Choose.{if◌then◌else◌}
+use Rattle.streaming.specs.Choose.{when◌then◌else◌}
 use Rattle.streaming.proofs.Choose.{in_both}
 use Rattle.rules.specs.Prologue.{bit_at, bits_at}
 use Rattle.records.specs.Bits.{taken_at, number, further}
@@ -44,23 +44,23 @@ module _ (bytes : List ℕ) where
 
 module _ (bytes : List ℕ) (at n : ℕ) where
   pub too_many : 64 < n → Nothing ≡ taken_at bytes at n
-  unfolding taken_at if◌then◌else◌
+  unfolding taken_at when◌then◌else◌
   too_many h = simp (lt-leb n 64 h)
 
   pub too_far : n ≤ 64 → 2 ^ 64 ≤ at + n → Nothing ≡ taken_at bytes at n
-  unfolding taken_at if◌then◌else◌
+  unfolding taken_at when◌then◌else◌
   too_far h k = simp (le-leb n 64 h, le-ltb (at + n) (2 ^ 64) k)
 
   pub too_few : n ≤ 64 → at + n < 2 ^ 64 → 8 * length bytes < at + n → Nothing ≡ taken_at bytes at n
-  unfolding taken_at if◌then◌else◌
+  unfolding taken_at when◌then◌else◌
   too_few h k l = simp (le-leb n 64 h, lt-ltb (at + n) (2 ^ 64) k, lt-leb (at + n) (8 * length bytes) l)
 
   pub taken : n ≤ 64 → at + n < 2 ^ 64 → at + n ≤ 8 * length bytes → Bits (bits_at bytes at n) ≡ taken_at bytes at n
-  unfolding taken_at if◌then◌else◌
+  unfolding taken_at when◌then◌else◌
   taken h k l = simp (le-leb n 64 h, lt-ltb (at + n) (2 ^ 64) k, le-leb (at + n) (8 * length bytes) l)
 
 pub further_near : (at n : ℕ) → at + n < 2 ^ 64 → further at n ≡ at + n
-unfolding further if◌then◌else◌
+unfolding further when◌then◌else◌
 further_near at n h = rw (le-ltb (2 ^ 64 - 1) (at + n) (omega arith))
 
 pub number_lt : (bytes : List ℕ) (at n : ℕ) → number (taken_at bytes at n) < 2 ^ n

@@ -9,7 +9,7 @@ use native.Mathlib.Omega.{arith}
 use lib.Dec.{ltb}
 use lib.ListN.{length}
 use borrow.Author.Tests.{ne_eqb, leb-true, leb-false, ltb-true, ltb-false}
-use Rattle.streaming.specs.Choose.{if◌then◌else◌}
+use Rattle.streaming.specs.Choose.{when◌then◌else◌}
 use Rattle.streaming.proofs.Choose.{in_both}
 use Rattle.rules.specs.Prologue.{Prologue, bits_at, reading, reading_handle, behind_type, reading_type, prologue_of}
 use Rattle.records.specs.Bits.{taken_at, number}
@@ -25,7 +25,7 @@ unfolding type_width
 width_most code = in_both (λ n. n ≤ 16) _ (λ e. omega arith) (λ e. in_both (λ n. n ≤ 16) _ (λ f. omega arith) (λ f. omega arith))
 
 pub gap_most : (r2000 : Bool) → gap_width r2000 ≤ 36
-unfolding gap_width if◌then◌else◌
+unfolding gap_width when◌then◌else◌
 gap_most true = omega arith
 gap_most false = omega arith
 
@@ -46,7 +46,7 @@ module _ (bytes : List ℕ) where
 
     -- the count, and so many bytes behind it: more than 64 bits are not taken
     counted : (at count : ℕ) → count < 16 → at + 128 < 2 ^ 64
-        → head_of (if ltb 8 count then none else reading bytes at (8 * count) λ handle at. some (record { type = type_of code bits; handle = handle })) ≡ head_with code bits (taken_at bytes at (8 * count))
+        → head_of (when ltb 8 count then none else reading bytes at (8 * count) λ handle at. some (record { type = type_of code bits; handle = handle })) ≡ head_with code bits (taken_at bytes at (8 * count))
     counted at count small near =
         in_both (λ o. head_of o ≡ head_with code bits (taken_at bytes at (8 * count))) (ltb 8 count)
         (λ e. let many = ltb-true 8 count e in ap (head_with code bits) (too_many bytes at (8 * count) (omega arith)))
@@ -64,7 +64,7 @@ module _ (bytes : List ℕ) where
         (λ short. no_handle (at + 4) (omega arith) (omega arith))
 
     behind_read : (r2000 : Bool) (at : ℕ) → at + 200 < 2 ^ 64 → head_of (behind_type bytes r2000 (type_of code bits) at) ≡ head_with code bits (handle_at (at + gap_width r2000))
-    unfolding behind_type gap_width if◌then◌else◌
+    unfolding behind_type gap_width when◌then◌else◌
     behind_read true at near =
         either _ at 32 _
         (λ _. handle_read (at + 32) (omega arith) ∙ ap (λ (p : ℕ). head_with code bits (handle_at p)) (add_assoc at 32 4))
@@ -73,11 +73,11 @@ module _ (bytes : List ℕ) where
 
   -- a type of two bytes stands with the low one first
   two_bytes : (at : ℕ) → bits_at bytes at 8 + 256 * bits_at bytes (at + 8) 8 ≡ type_of 0 (bits_at bytes at 16)
-  unfolding type_of if◌then◌else◌
+  unfolding type_of when◌then◌else◌
   two_bytes at = rw (bits_join bytes at 8 8) (omega (arith, bits_lt bytes at 8, bits_lt bytes (at + 8) 8))
 
   one_byte : (at : ℕ) → bits_at bytes at 8 ≡ type_of 1 (bits_at bytes at 8)
-  unfolding type_of if◌then◌else◌
+  unfolding type_of when◌then◌else◌
   one_byte at = omega (arith, bits_lt bytes at 8)
 
   module _ (r2000 : Bool) where
@@ -96,23 +96,23 @@ module _ (bytes : List ℕ) where
     type_missing code at near short = no_handle code _ (at + (type_width code + gap_width r2000)) (omega (arith, width_most code, gap_most r2000)) (omega arith)
 
     type_16 : (at : ℕ) → at + 220 < 2 ^ 64 → TypeRead 0 at (reading_type bytes 0 at (behind_type bytes r2000))
-    unfolding reading_type type_width if◌then◌else◌
+    unfolding reading_type type_width when◌then◌else◌
     type_16 at near =
         either _ at 8 _
         (λ _. either _ (at + 8) 8 _ (λ there. rw (two_bytes at, add_assoc at 8 8) (type_there 0 at near (omega arith))) (λ short. type_missing 0 at near (omega arith)))
         (λ short. type_missing 0 at near (omega arith))
 
     type_8 : (at : ℕ) → at + 220 < 2 ^ 64 → TypeRead 1 at (reading_type bytes 1 at (behind_type bytes r2000))
-    unfolding reading_type type_width if◌then◌else◌
+    unfolding reading_type type_width when◌then◌else◌
     type_8 at near = either _ at 8 _ (λ there. rw (one_byte at) (type_there 1 at near there)) (type_missing 1 at near)
 
     -- a code above 1 has no bits behind it
     no_width : (k : ℕ) → type_width (suc (suc k)) ≡ 0
-    unfolding type_width if◌then◌else◌
+    unfolding type_width when◌then◌else◌
     no_width k = rw (ne_eqb (suc (suc k)) 0 (λ e. omega arith), ne_eqb (suc (suc k)) 1 (λ e. omega arith))
 
     no_type : (k at bits : ℕ) → at + 200 < 2 ^ 64 → head_of (reading_type bytes (suc (suc k)) at (behind_type bytes r2000)) ≡ head_with (suc (suc k)) bits (handle_at (at + gap_width r2000))
-    unfolding reading_type type_of if◌then◌else◌
+    unfolding reading_type type_of when◌then◌else◌
     no_type zero at bits near = behind_read 2 bits r2000 at near
     no_type (suc k) at bits near =
         let no = ne_eqb (suc (suc (suc k))) in

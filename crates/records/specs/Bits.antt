@@ -1,6 +1,6 @@
 -- What taking bits answers.
 use Rattle.std.specs.Prelude.{ℕ, ◌+◌, ◌-◌, ◌*◌, ◌^◌, ◌&&◌, List, length, ltb, leb}
-use Rattle.streaming.specs.Choose.{if◌then◌else◌}
+use Rattle.streaming.specs.Choose.{when◌then◌else◌}
 use Rattle.rules.specs.Prologue.{bits_at}
 use Rattle.records.specs.declared.Taken.{Taken}
 use Rattle.records.specs.declared.Taken.TheVariants.{Bits, Nothing}
@@ -9,7 +9,7 @@ use Rattle.records.specs.declared.Taken.TheVariants.{Bits, Nothing}
 -- At most 64 bits are taken at once, and a place is below 2^64.
 unfoldable pub taken_at : (bytes : List ℕ) (at n : ℕ) → Taken
 taken_at bytes at n =
-    if leb n 64 && ltb (at + n) (2 ^ 64) && leb (at + n) (8 * length bytes) then Bits (bits_at bytes at n) else Nothing
+    when leb n 64 && ltb (at + n) (2 ^ 64) && leb (at + n) (8 * length bytes) then Bits (bits_at bytes at n) else Nothing
 
 -- the number that was taken, 0 for none
 abbrev pub number : Taken → ℕ
@@ -18,4 +18,4 @@ number (Bits n) = n
 
 -- the place n bits further on, or the last place
 unfoldable pub further : (at n : ℕ) → ℕ
-further at n = if ltb (2 ^ 64 - 1) (at + n) then 2 ^ 64 - 1 else at + n
+further at n = when ltb (2 ^ 64 - 1) (at + n) then 2 ^ 64 - 1 else at + n

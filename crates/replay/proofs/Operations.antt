@@ -7,7 +7,7 @@ use lib.ListN.{length, take, drop, get_or}
 use lib.Dec.{ltb, eqb}
 use native.Mathlib.Omega.{arith}
 use borrow.Author.Tests.{ltb-true, ltb-false, lt-ltb, eq-eqb}
-use Rattle.streaming.specs.Choose.{if◌then◌else◌}
+use Rattle.streaming.specs.Choose.{when◌then◌else◌}
 use Rattle.streaming.specs.declared.FlatWalker.{FlatWalker}
 use Rattle.streaming.specs.declared.Fed.{Fed}
 use Rattle.flat.specs.Flat.{feed_of}
@@ -16,8 +16,8 @@ use Rattle.replay.specs.Parse.{number_at}
 use Rattle.replay.specs.Answers.{fed_by}
 use Rattle.octets.proofs.Counted.{cut_short}
 
-both : (v : Bool) → ◌≡◌ {A = ℕ} (if v then 0 else 0) 0
-unfolding if◌then◌else◌
+both : (v : Bool) → ◌≡◌ {A = ℕ} (when v then 0 else 0) 0
+unfolding when◌then◌else◌
 both true = refl
 both false = refl
 
@@ -25,23 +25,23 @@ both false = refl
 
 module _ (s : List ℕ) where
   none_short : length s < 1 → size_of s ≡ 0
-  unfolding size_of if◌then◌else◌
+  unfolding size_of when◌then◌else◌
   none_short h = let e : length s ≡ 0 = omega arith in rw (eq-eqb (length s) 0 e)
 
   header_short : get_or s 0 0 ≡ 72 → length s < 70 → size_of s ≡ 0
-  unfolding size_of is_bare if◌then◌else◌
+  unfolding size_of is_bare when◌then◌else◌
   header_short e h = rw (e, lt-ltb (length s) 70 h) (both (eqb (length s) 0))
 
   state_short : get_or s 0 0 ≡ 87 → length s < 157 → size_of s ≡ 0
-  unfolding size_of is_bare state_size if◌then◌else◌
+  unfolding size_of is_bare state_size when◌then◌else◌
   state_short e h = rw (e, lt-ltb (length s) 157 h) (both (eqb (length s) 0))
 
   feed-short : get_or s 0 0 ≡ 70 → length s < 13 → size_of s ≡ 0
-  unfolding size_of is_bare feed_size if◌then◌else◌
+  unfolding size_of is_bare feed_size when◌then◌else◌
   feed-short e h = rw (e, ← cut_short s 9 (number_at s 9 4) refl (omega arith)) (both (eqb (length s) 0))
 
   piece-short : get_or s 0 0 ≡ 70 → 13 ≤ length s → length s < 13 + number_at s 9 4 → size_of s ≡ 0
-  unfolding size_of is_bare feed_size if◌then◌else◌
+  unfolding size_of is_bare feed_size when◌then◌else◌
   piece-short e h k = rw (e, ← cut_short s 9 (number_at s 9 4) refl k) (both (eqb (length s) 0))
 
 -- ---- what is well-formed is long enough

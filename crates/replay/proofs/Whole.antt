@@ -8,21 +8,21 @@ use lib.Seq.{take_all, drop-drop}
 use lib.Dec.{ltb}
 use native.Mathlib.Omega.{arith}
 use borrow.Author.Tests.{lt-ltb, ltb-true, ltb-false, eq-eqb, ne_eqb}
-use Rattle.streaming.specs.Choose.{if◌then◌else◌}
+use Rattle.streaming.specs.Choose.{when◌then◌else◌}
 use Rattle.replay.specs.Form.{size_of, is_whole}
 
 pub whole_none : (k : ℕ) (s : List ℕ) → length s ≡ 0 → is_whole k s ≡ true
-unfolding is_whole if◌then◌else◌
+unfolding is_whole when◌then◌else◌
 whole_none zero s e = eq-eqb _ _ e
 whole_none (suc k) s e = rw (eq-eqb (length s) 0 e)
 
 -- one operation is gone past
 pub whole_one : (k : ℕ) (s : List ℕ) → 0 < length s → 0 < size_of s → is_whole (suc k) s ≡ is_whole k (drop (size_of s) s)
-unfolding is_whole if◌then◌else◌
+unfolding is_whole when◌then◌else◌
 whole_one k s h n = rw (ne_eqb (length s) 0 (λ e. omega arith), lt-ltb 0 (size_of s) n)
 
 pub whole_not : (k : ℕ) (s : List ℕ) → 0 < length s → size_of s ≡ 0 → is_whole k s ≡ false
-unfolding is_whole if◌then◌else◌
+unfolding is_whole when◌then◌else◌
 whole_not zero s h e = ne_eqb (length s) 0 (λ z. omega arith)
 whole_not (suc k) s h e = rw (ne_eqb (length s) 0 (λ z. omega arith), e)
 

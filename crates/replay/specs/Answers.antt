@@ -1,6 +1,6 @@
 -- What each answer of the walk prints, and what an operation does with the walk that is in hand.
 use Rattle.std.specs.Prelude.{ℕ, Bool, true, false, List, [], ◌∷◌, get_or, eqb}
-use Rattle.streaming.specs.Choose.{if◌then◌else◌}
+use Rattle.streaming.specs.Choose.{when◌then◌else◌}
 use Rattle.streaming.specs.Numbers.{part_number}
 use Rattle.streaming.specs.declared.Step.{Step}
 use Rattle.streaming.specs.declared.Step.TheVariants as step
@@ -69,16 +69,16 @@ fed_by state s = feed_of state (number_at s 1 8) (bytes_at s 13 (number_at s 9 4
 -- what leaves the walk as it is: `R`, `N`, `C`, and else `T`
 unfoldable pub ask_line : FlatWalker → (letter : ℕ) → List ℕ
 ask_line state letter =
-    if eqb letter 82 then asked_line (request_of state) else
-    (if eqb letter 78 then ended_line (end_of state) else
-    (if eqb letter 67 then yes_line (consistent_of state) else yes_line (fit_of state)))
+    when eqb letter 82 then asked_line (request_of state) else
+    (when eqb letter 78 then ended_line (end_of state) else
+    (when eqb letter 67 then yes_line (consistent_of state) else yes_line (fit_of state)))
 
 -- `H` and `W` are always answered, the others only while a walk is in hand: else `-`
 unfoldable pub answer_line : Hand → List ℕ → List ℕ
 answer_line hand s =
-    if eqb (get_or s 0 0) 72 then start_line (start_of (header_in s)).answer else
-    (if eqb (get_or s 0 0) 87 then line_of 87 [] else
-    (if hand.held then (if eqb (get_or s 0 0) 70 then fed_line (fed_by hand.state s).answer else ask_line hand.state (get_or s 0 0)) else line_of 45 []))
+    when eqb (get_or s 0 0) 72 then start_line (start_of (header_in s)).answer else
+    (when eqb (get_or s 0 0) 87 then line_of 87 [] else
+    (when hand.held then (when eqb (get_or s 0 0) 70 then fed_line (fed_by hand.state s).answer else ask_line hand.state (get_or s 0 0)) else line_of 45 []))
 
 abbrev pub hand_of : Bool → FlatWalker → Hand
 hand_of held state = record { held = held; state = state }
@@ -86,6 +86,6 @@ hand_of held state = record { held = held; state = state }
 -- `H` and `W` change the walk that is in hand, `F` goes on with it
 unfoldable pub hand_after : Hand → List ℕ → Hand
 hand_after hand s =
-    if eqb (get_or s 0 0) 72 then hand_of (is_begun (start_of (header_in s)).answer) (start_of (header_in s)).state else
-    (if eqb (get_or s 0 0) 87 then hand_of true (state_in s) else
-    (if hand.held then (if eqb (get_or s 0 0) 70 then hand_of true (fed_by hand.state s).state else hand) else hand))
+    when eqb (get_or s 0 0) 72 then hand_of (is_begun (start_of (header_in s)).answer) (start_of (header_in s)).state else
+    (when eqb (get_or s 0 0) 87 then hand_of true (state_in s) else
+    (when hand.held then (when eqb (get_or s 0 0) 70 then hand_of true (fed_by hand.state s).state else hand) else hand))

@@ -1,6 +1,6 @@
 -- What the bytes behind `H` and `W` say: a header, and a state with no failure held. Numbers have their lowest byte first.
 use Rattle.std.specs.Prelude.{ℕ, ◌+◌, List, [], ◌∷◌, take, drop, get_or, eqb}
-use Rattle.streaming.specs.Choose.{if◌then◌else◌}
+use Rattle.streaming.specs.Choose.{when◌then◌else◌}
 use Rattle.streaming.specs.declared.Locator.{Locator}
 use Rattle.streaming.specs.declared.FlatHeader.{FlatHeader}
 use Rattle.streaming.specs.declared.MapCursor.{MapCursor}
@@ -33,11 +33,11 @@ header_in s = record {
 -- 1 to 6, in the walk's order
 unfoldable pub stage_in : ℕ → Stage
 stage_in n =
-    if eqb n 1 then stage.Vars else
-    (if eqb n 2 then stage.Classes else
-    (if eqb n 3 then stage.Chunk else
-    (if eqb n 4 then stage.Entry else
-    (if eqb n 5 then stage.Object else stage.Done))))
+    when eqb n 1 then stage.Vars else
+    (when eqb n 2 then stage.Classes else
+    (when eqb n 3 then stage.Chunk else
+    (when eqb n 4 then stage.Entry else
+    (when eqb n 5 then stage.Object else stage.Done))))
 
 -- the map's cursor, 46 bytes at place 111
 unfoldable pub cursor_in : List ℕ → MapCursor

@@ -6,7 +6,7 @@ use native.Mathlib.Omega.{arith}
 use lib.ListN.{length, drop, length-drop}
 use lib.Dec.{leb}
 use borrow.Author.Tests.{lt-leb}
-use Rattle.streaming.specs.Choose.{if◌then◌else◌}
+use Rattle.streaming.specs.Choose.{when◌then◌else◌}
 use Rattle.streaming.specs.declared.FlatHeader.{FlatHeader}
 use Rattle.streaming.specs.declared.Fault.TheVariants as fault
 use Rattle.account.specs.Account.{over, framing, broken}
@@ -19,12 +19,12 @@ use Rattle.rules.proofs.Entry.{Fits, entry_fits}
 
 module _ (h : FlatHeader) (src : List ℕ) where
   chunks_settle : (j k chunk : ℕ) → k ≤ j → map_end h ≤ chunk + k → ask_chunks h src j chunk ≡ ask_chunks h src k chunk
-  unfolding ask_chunks if◌then◌else◌
+  unfolding ask_chunks when◌then◌else◌
   chunks_settle zero zero chunk l e = refl
   chunks_settle (suc j) zero chunk l e = rw (lt-leb (chunk + 4) (map_end h) (omega arith))
   chunks_settle zero (suc k) chunk l e = absurd (omega arith)
   chunks_settle (suc j) (suc k) chunk l e =
-      ap (λ next. if leb (chunk + 4) (map_end h) then span src chunk 2 framing (chunk_size_turn h src chunk (chunk_size src chunk) next)
+      ap (λ next. when leb (chunk + 4) (map_end h) then span src chunk 2 framing (chunk_size_turn h src chunk (chunk_size src chunk) next)
       else over (broken (fault.MapChunk chunk)))
       (chunks_settle j k (chunk + chunk_size src chunk + 2) (omega arith) (omega arith))
 

@@ -1,5 +1,5 @@
 -- One name that opens every rule, for what is proved by computing: `unfolding every_rule`.
-use Rattle.streaming.specs.Choose.{if◌then◌else◌}
+use Rattle.streaming.specs.Choose.{when◌then◌else◌}
 use Rattle.crc.specs.Crc.{polynomial_if, step, steps, crc_byte, crc_of}
 use Rattle.account.specs.Account.{records_in, ending_of, bytes_taken, payload_taken}
 use Rattle.account.specs.Asking.{span, one_by_one, spell}
@@ -16,7 +16,7 @@ use Rattle.rules.specs.Rules.{rules}
 
 unfoldable pub every_rule : Unit {0}
 unfolding
-    if◌then◌else◌ little_endian big_endian same polynomial_if step steps crc_byte crc_of
+    when◌then◌else◌ little_endian big_endian same polynomial_if step steps crc_byte crc_of
     records_in ending_of bytes_taken payload_taken span one_by_one spell
     first_of locator_of map_end is_r2000 is_outside start_refusal
     sentinels section_size section_computed section_stored section_record ask_section_end section_crc_turn ask_section_data section_size_turn ask_section

@@ -7,7 +7,7 @@ use native.Mathlib.Omega.{arith}
 use lib.ListN.{length}
 use lib.Dec.{ltb}
 use borrow.Author.Tests.{ltb-true, ltb-false, le-ltb}
-use Rattle.streaming.specs.Choose.{if◌then◌else◌}
+use Rattle.streaming.specs.Choose.{when◌then◌else◌}
 use Rattle.streaming.specs.declared.Part.TheVariants.{Object}
 use Rattle.streaming.specs.declared.FlatHeader.{FlatHeader}
 use Rattle.streaming.specs.declared.Fault.TheVariants as fault
@@ -23,11 +23,11 @@ use Rattle.rules.proofs.Told.{told_turn, told-bad, told_over, told-ask, turn_if,
 -- a demand of two bytes of which the source has none or one
 lacking : (src : List ℕ) (at : ℕ) (t : Turn) → at ≤ length src → length src < at + 2
     → told (span src at 2 framing t) ≡ stop (demand (length src) (at + 2 - length src))
-unfolding span if◌then◌else◌
+unfolding span when◌then◌else◌
 lacking src at t h k = split (ltb at (length src)) refl
   where
     split : (b : Bool) → ltb at (length src) ≡ b
-        → told (if b then ask at 2 framing (span src (suc at) 1 framing t) else over (demand at 2)) ≡ stop (demand (length src) (at + 2 - length src))
+        → told (when b then ask at 2 framing (span src (suc at) 1 framing t) else over (demand at 2)) ≡ stop (demand (length src) (at + 2 - length src))
     split true e =
         let l : suc at ≡ length src = omega (arith, ltb-true at (length src) e) in
         rw (le-ltb (suc at) (length src) (omega arith)) (told-ask _ _ _ _ ∙ told_over (demand (suc at) 1) ∙ ap stop (ap₂ demand l (omega arith)))
@@ -54,11 +54,11 @@ module _ (h : FlatHeader) (src : List ℕ) (len : length src ≡ h.length) (hand
 
   -- by whether the first word is the last
   words-told : (b : Bool) (s : Size) → location + 2 ≤ h.length
-      → told_turn (if b then object_size_turn h src handle location next s
+      → told_turn (when b then object_size_turn h src handle location next s
       else go framing (span src (location + 2) 2 framing (object_size_turn h src handle location next s)))
-      ≡ (if not b && ltb h.length (location + 4) then stop (demand h.length (location + 4 - h.length))
+      ≡ (when not b && ltb h.length (location + 4) then stop (demand h.length (location + 4 - h.length))
       else sized_then h src handle location s (told next))
-  unfolding if◌then◌else◌
+  unfolding when◌then◌else◌
   words-told true s k = sized-told s
   words-told false s k =
       in_both (λ l. told (span src (location + 2) 2 framing (object_size_turn h src handle location next s)) ≡ l) (ltb h.length (location + 4))

@@ -9,12 +9,12 @@ use lib.ListN.{length, take, length-take}
 use lib.Seq.{get_or-take}
 use lib.Dec.{leb}
 use borrow.Author.Tests.{leb-true, leb-false, ltb-false, le-leb, lt-leb}
-use Rattle.streaming.specs.Choose.{if◌then◌else◌}
+use Rattle.streaming.specs.Choose.{when◌then◌else◌}
 use Rattle.rules.specs.Prologue.{Prologue, bit_at, bits_at, reading, reading_handle, behind_type, reading_type, prologue_of}
 use Rattle.streaming.proofs.Choose.{choose_alike}
 
 -- two choices of prologues by one test
-either_same : (t : Bool) {x y u v : Option Prologue} → (t ≡ true → x ≡ u) → (t ≡ false → y ≡ v) → (if t then x else y) ≡ (if t then u else v)
+either_same : (t : Bool) {x y u v : Option Prologue} → (t ≡ true → x ≡ u) → (t ≡ false → y ≡ v) → (when t then x else y) ≡ (when t then u else v)
 either_same t p q = choose_alike (λ o. o) t p q
 
 module _ (bytes : List ℕ) where
@@ -39,7 +39,7 @@ module _ (bytes : List ℕ) where
       → reading (take 16 bytes) at n f ≡ reading bytes at n g
   unfolding reading
   reading-same at n f g l k =
-      ap₂ (λ b p. if b then p else none) (room-same (at + n) l) (ap (λ number. f number (at + n)) (bits_same at n l) ∙ k (bits_at bytes at n))
+      ap₂ (λ b p. when b then p else none) (room-same (at + n) l) (ap (λ number. f number (at + n)) (bits_same at n l) ∙ k (bits_at bytes at n))
 
   handle-same : (type at : ℕ) → at + 72 ≤ 128 → reading_handle (take 16 bytes) type at ≡ reading_handle bytes type at
   unfolding reading_handle

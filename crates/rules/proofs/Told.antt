@@ -8,7 +8,7 @@ use lib.ListN.{length, get_or}
 use lib.Seq.{drop-cons}
 use lib.Dec.{eqb}
 use borrow.Author.Tests.{lt-ltb}
-use Rattle.streaming.specs.Choose.{if◌then◌else◌}
+use Rattle.streaming.specs.Choose.{when◌then◌else◌}
 use Rattle.streaming.specs.Record.{committed_in}
 use Rattle.streaming.specs.declared.Step.TheVariants as step
 use Rattle.streaming.specs.declared.Fault.{Fault}
@@ -47,13 +47,13 @@ unfolding records_in ending_of
 told-ask at left s a = refl
 
 -- a test before a turn, and one before a unit is entered
-pub turn_if : (b : Bool) (f : Fault) (t : Turn) {l : Listing} → (b ≡ true → told_turn t ≡ l) → told_turn (if b then t else bad f) ≡ require b f l
-unfolding if◌then◌else◌ require
+pub turn_if : (b : Bool) (f : Fault) (t : Turn) {l : Listing} → (b ≡ true → told_turn t ≡ l) → told_turn (when b then t else bad f) ≡ require b f l
+unfolding when◌then◌else◌ require
 turn_if true f t e = e refl
 turn_if false f t e = told-bad f
 
-pub entered_if : (b : Bool) (f : Fault) (a : Account) {l : Listing} → (b ≡ true → told a ≡ l) → told (if b then a else over (broken f)) ≡ require b f l
-unfolding if◌then◌else◌ require
+pub entered_if : (b : Bool) (f : Fault) (a : Account) {l : Listing} → (b ≡ true → told a ≡ l) → told (when b then a else over (broken f)) ≡ require b f l
+unfolding when◌then◌else◌ require
 entered_if true f a e = e refl
 entered_if false f a e = told_over (broken f)
 
@@ -64,7 +64,7 @@ require_if false f e = refl
 
 module _ (src : List ℕ) where
   pub told-span : (at n : ℕ) (plain : Answer) (t : Turn) → Quiet plain → at + suc n ≤ length src → told (span src at (suc n) plain t) ≡ told_turn t
-  unfolding span if◌then◌else◌
+  unfolding span when◌then◌else◌
   told-span at zero plain t q h = rw (lt-ltb at (length src) (omega arith)) (told-ask _ _ _ _)
   told-span at (suc n) plain t q h =
       rw (lt-ltb at (length src) (omega arith)) (told-ask _ _ _ _ ∙ quiet plain q _ ∙ told-span (suc at) n plain t q (omega arith))
@@ -75,23 +75,23 @@ module _ (src : List ℕ) where
   told-passing at (suc n) plain a q h = told-span at n plain (go plain a) q h ∙ quiet plain q a
 
   pub told-one_by_one : (at n : ℕ) (t : Turn) → at + suc n ≤ length src → told (one_by_one src at (suc n) t) ≡ told_turn t
-  unfolding one_by_one if◌then◌else◌
+  unfolding one_by_one when◌then◌else◌
   told-one_by_one at zero t h = rw (lt-ltb at (length src) (omega arith)) (told-ask _ _ _ _)
   told-one_by_one at (suc n) t h = rw (lt-ltb at (length src) (omega arith)) (told-ask _ _ _ _ ∙ told-one_by_one (suc at) n t (omega arith))
 
   spell-told : (at w : ℕ) (ws : List ℕ) (f : Fault) (t : Turn) → at + suc (length ws) ≤ length src
       → told (spell src at (w ∷ ws) f t) ≡ require (same (part src at (suc (length ws))) (w ∷ ws)) f (told_turn t)
-  unfolding spell same if◌then◌else◌ require
+  unfolding spell same when◌then◌else◌ require
   spell-told at w [] f t h = rw (drop-cons src at 0 (omega arith), lt-ltb at (length src) (omega arith)) (both (eqb (get_or src at 0) w))
     where
-      both : (b : Bool) → told (if b then ask at 1 t.says t.rest else ask at 1 (faulted f) (over (broken f))) ≡ require (b && true) f (told_turn t)
+      both : (b : Bool) → told (when b then ask at 1 t.says t.rest else ask at 1 (faulted f) (over (broken f))) ≡ require (b && true) f (told_turn t)
       both true = told-ask _ _ _ _
       both false = told-ask _ _ _ _ ∙ told-bad f
   spell-told at w (v ∷ vs) f t h =
       rw (drop-cons src at 0 (omega arith), lt-ltb at (length src) (omega arith)) (both (eqb (get_or src at 0) w) (spell-told (suc at) v vs f t (omega arith)))
     where
       both : (b : Bool) → told (spell src (suc at) (v ∷ vs) f t) ≡ require (same (part src (suc at) (suc (length vs))) (v ∷ vs)) f (told_turn t)
-          → told (if b then ask at (suc (suc (length vs))) framing (spell src (suc at) (v ∷ vs) f t)
+          → told (when b then ask at (suc (suc (length vs))) framing (spell src (suc at) (v ∷ vs) f t)
           else ask at (suc (suc (length vs))) (faulted f) (over (broken f)))
           ≡ require (b && same (part src (suc at) (suc (length vs))) (v ∷ vs)) f (told_turn t)
       both true e = told-ask _ _ _ _ ∙ e

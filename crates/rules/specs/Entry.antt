@@ -2,7 +2,7 @@
 -- means that more follow.
 use Rattle.std.specs.Prelude.{ℕ, zero, suc, ◌+◌, ◌*◌, ◌-◌, ◌/◌, ◌%◌, ◌^◌, min, Bool, true, false, ◌&&◌, List, [], ◌∷◌, length, take, drop, ltb, eqb}
 use Rattle.std.proofs.Math.Option.{Option, none, some}
-use Rattle.streaming.specs.Choose.{if◌then◌else◌}
+use Rattle.streaming.specs.Choose.{when◌then◌else◌}
 
 -- ---- the bytes of a delta
 
@@ -14,7 +14,7 @@ before b (some bs) = some (b ∷ bs)
 -- up to the first byte whose high bit is clear; none where every high bit is set
 unfoldable pub groups_of : List ℕ → Option (List ℕ)
 groups_of [] = none
-groups_of (b ∷ bs) = if ltb b 0x80 then some (b ∷ []) else before b (groups_of bs)
+groups_of (b ∷ bs) = when ltb b 0x80 then some (b ∷ []) else before b (groups_of bs)
 
 -- of the delta that some bytes begin with: a tenth byte is refused, last or not
 abbrev pub delta_in : List ℕ → Option (List ℕ)
@@ -58,8 +58,8 @@ location_delta bytes = signed (is_back bytes) (magnitude bytes)
 
 -- none where the location would be below 0 or above 2^63 - 1
 unfoldable pub moved : (location : ℕ) → Delta → Option ℕ
-moved location (ahead n) = if ltb (location + n) (2 ^ 63) then some (location + n) else none
-moved location (back n) = if ltb location n then none else some (location - n)
+moved location (ahead n) = when ltb (location + n) (2 ^ 63) then some (location + n) else none
+moved location (back n) = when ltb location n then none else some (location - n)
 
 -- ---- an entry
 
@@ -82,7 +82,7 @@ with_location n handle location bytes (some groups) = entry_at (n + length group
 unfoldable pub with_handle : (handle location : ℕ) (bytes : List ℕ) → Option (List ℕ) → Entry
 with_handle handle location bytes none = refused (refused_in bytes)
 with_handle handle location bytes (some groups) =
-    if ltb (length groups) (length bytes) && ltb (handle + handle_delta groups) (2 ^ 64) then
+    when ltb (length groups) (length bytes) && ltb (handle + handle_delta groups) (2 ^ 64) then
     (let behind = drop (length groups) bytes in
     with_location (length groups) (handle + handle_delta groups) location behind (delta_in behind))
     else refused (length groups)

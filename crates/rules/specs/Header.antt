@@ -1,7 +1,7 @@
 -- What is read from the file header (§3.2), and what Start refuses.
 use Rattle.std.specs.Prelude.{ℕ, ◌+◌, ◌*◌, Bool, List, [], ◌∷◌, take, ltb, eqb}
 use Rattle.std.proofs.Math.Option.{Option, none, some}
-use Rattle.streaming.specs.Choose.{if◌then◌else◌}
+use Rattle.streaming.specs.Choose.{when◌then◌else◌}
 use Rattle.streaming.specs.declared.Locator.{Locator}
 use Rattle.streaming.specs.declared.FlatHeader.{FlatHeader}
 use Rattle.streaming.specs.declared.StreamError.{StreamError}
@@ -13,7 +13,7 @@ use Rattle.octets.specs.Octets.{same}
 -- the first of that number; a missing one is offset 0, size 0
 unfoldable pub first_of : (number : ℕ) → List Locator → Locator
 first_of n [] = record { number = 0; offset = 0; size = 0 }
-first_of n (l ∷ ls) = if eqb l.number n then l else first_of n ls
+first_of n (l ∷ ls) = when eqb l.number n then l else first_of n ls
 
 -- only the counted locators are looked at
 unfoldable pub locator_of : FlatHeader → (number : ℕ) → Locator
@@ -48,8 +48,8 @@ is_outside h n = ltb h.length ((locator_of h n).offset + (locator_of h n).size)
 -- count above 6: refusal 1; then for numbers 0, 1, 2 in turn, offset + size above the length: refusal 2
 unfoldable pub start_refusal : FlatHeader → Option StreamError
 start_refusal h =
-    if ltb 6 h.count then some (error.LocatorCount h.count)
-    else if is_outside h 0 then some (error.LocatorRange 0)
-    else if is_outside h 1 then some (error.LocatorRange 1)
-    else if is_outside h 2 then some (error.LocatorRange 2)
+    when ltb 6 h.count then some (error.LocatorCount h.count)
+    else when is_outside h 0 then some (error.LocatorRange 0)
+    else when is_outside h 1 then some (error.LocatorRange 1)
+    else when is_outside h 2 then some (error.LocatorRange 2)
     else none

@@ -1,6 +1,6 @@
 -- The object map (§23.1): chunks of a size, entries and a checksum. Sizes and checksums are big-endian, and a size counts itself.
 use Rattle.std.specs.Prelude.{ℕ, zero, suc, ◌+◌, ◌-◌, Bool, ◌&&◌, List, [], ◌∷◌, leb, eqb}
-use Rattle.streaming.specs.Choose.{if◌then◌else◌}
+use Rattle.streaming.specs.Choose.{when◌then◌else◌}
 use Rattle.streaming.specs.declared.FlatHeader.{FlatHeader}
 use Rattle.streaming.specs.declared.Fault.TheVariants as fault
 use Rattle.streaming.specs.declared.Asked.TheVariants as asked
@@ -45,16 +45,16 @@ module _ (h : FlatHeader) (src : List ℕ) where
   -- size 2 ends the walk, and has to end the map
   unfoldable pub chunk_turn : (chunk size : ℕ) → Account → Turn
   chunk_turn chunk size next =
-      if eqb size 2 then (if eqb (chunk + 4) (map_end h) then go finished (over asked.Nothing) else bad (fault.MapChunk chunk))
+      when eqb size 2 then (when eqb (chunk + 4) (map_end h) then go finished (over asked.Nothing) else bad (fault.MapChunk chunk))
       else go framing (ask_entries (chunk_entries src chunk size) (chunk + 2) next)
 
   unfoldable pub chunk_crc_turn : (chunk size computed stored : ℕ) → Account → Turn
   chunk_crc_turn chunk size computed stored next =
-      if eqb stored computed then chunk_turn chunk size next else bad (fault.MapCrc chunk computed stored)
+      when eqb stored computed then chunk_turn chunk size next else bad (fault.MapCrc chunk computed stored)
 
   unfoldable pub chunk_size_turn : (chunk size : ℕ) → Account → Turn
   chunk_size_turn chunk size next =
-      if chunk_fits h chunk size then
+      when chunk_fits h chunk size then
       go framing (passing src (chunk + 2) (size - 2) framing
       (span src (chunk + size) 2 framing (chunk_crc_turn chunk size (chunk_computed src chunk size) (chunk_stored src chunk size) next)))
       else bad (fault.MapChunk chunk)
@@ -64,6 +64,6 @@ module _ (h : FlatHeader) (src : List ℕ) where
   unfoldable pub ask_chunks : ℕ → (chunk : ℕ) → Account
   ask_chunks zero chunk = over (broken (fault.MapChunk chunk))
   ask_chunks (suc k) chunk =
-      if leb (chunk + 4) (map_end h) then
+      when leb (chunk + 4) (map_end h) then
       span src chunk 2 framing (chunk_size_turn chunk (chunk_size src chunk) (ask_chunks k (chunk + chunk_size src chunk + 2)))
       else over (broken (fault.MapChunk chunk))

@@ -1,7 +1,7 @@
 -- An object (§20.1): its size in one or two words, its data, and a checksum of 2 bytes. Numbers are little-endian.
 use Rattle.std.specs.Prelude.{ℕ, ◌+◌, ◌*◌, ◌%◌, Bool, ◌&&◌, not, List, take, drop, ltb, leb, eqb}
 use Rattle.std.proofs.Math.Option.{Option, none, some}
-use Rattle.streaming.specs.Choose.{if◌then◌else◌}
+use Rattle.streaming.specs.Choose.{when◌then◌else◌}
 use Rattle.streaming.specs.declared.Part.TheVariants.{Object}
 use Rattle.streaming.specs.declared.FlatHeader.{FlatHeader}
 use Rattle.streaming.specs.declared.ObjectRecord.{ObjectRecord}
@@ -29,8 +29,8 @@ is_last word = ltb word 0x8000
 
 unfoldable pub size_of_words : (first second : ℕ) → Size
 size_of_words first second =
-    if is_last first then sized 2 first
-    else if is_last second then sized 4 (first % 0x8000 + 0x8000 * second)
+    when is_last first then sized 2 first
+    else when is_last second then sized 4 (first % 0x8000 + 0x8000 * second)
     else unending
 
 -- the second word is looked at only where the first is not the last
@@ -77,14 +77,14 @@ object_record handle location size p = record { handle = handle; offset = locati
 unfoldable pub named : (handle location size : ℕ) → Option Prologue → Verdict
 named handle location size none = fails (fault.ObjectHeader handle)
 named handle location size (some p) =
-    if eqb p.handle handle then holds (object_record handle location size p) else fails (fault.ObjectHandle handle p.handle)
+    when eqb p.handle handle then holds (object_record handle location size p) else fails (fault.ObjectHandle handle p.handle)
 
 -- the checksum first, then the prologue of the data's first 16 bytes
 unfoldable pub verdict : FlatHeader → (src : List ℕ) (handle location field_bytes size : ℕ) → Verdict
 verdict h src handle location field_bytes size =
     let computed = object_computed src location field_bytes size in
     let stored = object_stored src location field_bytes size in
-    if eqb stored computed then named handle location size (prologue_of (is_r2000 h) (take 16 (part src (location + field_bytes) size)))
+    when eqb stored computed then named handle location size (prologue_of (is_r2000 h) (take 16 (part src (location + field_bytes) size)))
     else fails (fault.ObjectCrc handle computed stored)
 
 -- ---- what is asked for, and what is said, in the order of the fields
@@ -103,8 +103,8 @@ module _ (h : FlatHeader) (src : List ℕ) (handle location : ℕ) (next : Accou
   unfoldable pub object_size_turn : Size → Turn
   object_size_turn unending = bad (fault.ObjectSize handle)
   object_size_turn (sized field_bytes size) =
-      if ltb 0 size then
-      (if may_end h location (location + field_bytes + size + 2) then go framing (ask_object_data field_bytes size)
+      when ltb 0 size then
+      (when may_end h location (location + field_bytes + size + 2) then go framing (ask_object_data field_bytes size)
       else bad (fault.ObjectRange handle location))
       else bad (fault.ObjectSize handle)
 
@@ -112,9 +112,9 @@ module _ (h : FlatHeader) (src : List ℕ) (handle location : ℕ) (next : Accou
   unfoldable pub ask_object : Account
   ask_object =
       span src location 2 framing
-      (if is_last (first_word src location) then object_size_turn (size_at src location)
+      (when is_last (first_word src location) then object_size_turn (size_at src location)
       else go framing (span src (location + 2) 2 framing (object_size_turn (size_at src location))))
 
   -- at the last byte of its entry in the map an object is entered at once
   unfoldable pub object_turn : Turn
-  object_turn = if may_start h location then go framing ask_object else bad (fault.ObjectRange handle location)
+  object_turn = when may_start h location then go framing ask_object else bad (fault.ObjectRange handle location)

@@ -1,7 +1,7 @@
 -- The records and the ending of a drawing as a plain list, with nothing asked for: both sections; then for each chunk of the map, for each of its
 -- entries, the object. The map's order decides.
 use Rattle.std.specs.Prelude.{ℕ, zero, suc, ◌+◌, ◌-◌, Bool, true, false, ◌&&◌, not, List, [], ◌∷◌, ltb, leb, eqb}
-use Rattle.streaming.specs.Choose.{if◌then◌else◌}
+use Rattle.streaming.specs.Choose.{when◌then◌else◌}
 use Rattle.streaming.specs.Numbers.{part_number}
 use Rattle.streaming.specs.Record.{Record, section, object}
 use Rattle.streaming.specs.declared.Part.{Part}
@@ -72,7 +72,7 @@ module _ (h : FlatHeader) (src : List ℕ) where
   unfoldable pub object_then : (handle location : ℕ) → Listing → Listing
   object_then handle location rest =
       require (may_start h location) (fault.ObjectRange handle location)
-      (if lacks_second_word location then stop (demand h.length (location + 4 - h.length))
+      (when lacks_second_word location then stop (demand h.length (location + 4 - h.length))
       else sized_then handle location (size_at src location) rest)
 
   -- the objects of a chunk's entries, which begin at a place
@@ -84,7 +84,7 @@ module _ (h : FlatHeader) (src : List ℕ) where
   -- a chunk with no entries is the last
   unfoldable pub checked_chunk_then : (chunk size : ℕ) → Listing → Listing
   checked_chunk_then chunk size rest =
-      if eqb size 2 then require (eqb (chunk + 4) (map_end h)) (fault.MapChunk chunk) (stop asked.Nothing)
+      when eqb size 2 then require (eqb (chunk + 4) (map_end h)) (fault.MapChunk chunk) (stop asked.Nothing)
       else entries_then (chunk_entries src chunk size) (chunk + 2) rest
 
   -- a chunk of the map (§23.1)

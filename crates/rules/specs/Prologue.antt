@@ -1,7 +1,7 @@
 -- What the data of an object begins with (§20.1): its type and its handle, read bit by bit, the most significant bit of each byte first.
 use Rattle.std.specs.Prelude.{ℕ, zero, suc, ◌+◌, ◌*◌, ◌-◌, ◌/◌, ◌%◌, ◌^◌, Bool, List, length, get_or, ltb, leb, eqb}
 use Rattle.std.proofs.Math.Option.{Option, none, some}
-use Rattle.streaming.specs.Choose.{if◌then◌else◌}
+use Rattle.streaming.specs.Choose.{when◌then◌else◌}
 
 pub record Prologue : Type 0 where
   pub type : ℕ
@@ -19,26 +19,26 @@ module _ (bytes : List ℕ) where
 
   -- reads n bits at a place and goes on with their number and the place behind them; none where the bits run out
   unfoldable pub reading : (at n : ℕ) → ((number behind : ℕ) → Option Prologue) → Option Prologue
-  reading at n go_on = if leb (at + n) (8 * length bytes) then go_on (bits_at at n) (at + n) else none
+  reading at n go_on = when leb (at + n) (8 * length bytes) then go_on (bits_at at n) (at + n) else none
 
   -- 4 bits are skipped, 4 bits count (above 8: none), and that many bytes are the handle, the high byte first
   unfoldable pub reading_handle : (type at : ℕ) → Option Prologue
   reading_handle type at =
       reading at 4 λ skipped at.
       reading at 4 λ count at.
-      if ltb 8 count then none
+      when ltb 8 count then none
       else reading at (8 * count) λ handle at. some (record { type = type; handle = handle })
 
   -- in R2000 the 32 bits between the type and the handle are skipped
   unfoldable pub behind_type : (r2000 : Bool) (type at : ℕ) → Option Prologue
-  behind_type r2000 type at = if r2000 then (reading at 32 λ skipped at. reading_handle type at) else reading_handle type at
+  behind_type r2000 type at = when r2000 then (reading at 32 λ skipped at. reading_handle type at) else reading_handle type at
 
   -- the type by its code: 0 a 16-bit type, low byte first; 1 an 8-bit type; 2 type 0; 3 type 256
   unfoldable pub reading_type : (code at : ℕ) → ((type behind : ℕ) → Option Prologue) → Option Prologue
   reading_type code at go_on =
-      if eqb code 0 then (reading at 8 λ low at. reading at 8 λ high at. go_on (low + 256 * high) at)
-      else if eqb code 1 then reading at 8 go_on
-      else if eqb code 2 then go_on 0 at
+      when eqb code 0 then (reading at 8 λ low at. reading at 8 λ high at. go_on (low + 256 * high) at)
+      else when eqb code 1 then reading at 8 go_on
+      else when eqb code 2 then go_on 0 at
       else go_on 256 at
 
 -- The prologue that some bytes begin with: the first two bits are the type's code.

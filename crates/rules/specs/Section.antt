@@ -1,7 +1,7 @@
 -- A section: the header variables (§9) or the classes (§10.1). A start sentinel of 16 bytes, a size of 4, data, a checksum of 2 and an end
 -- sentinel of 16. Numbers are little-endian, and each of the five fields is one demand.
 use Rattle.std.specs.Prelude.{ℕ, ◌+◌, List, [], ◌∷◌, get_or, leb, eqb}
-use Rattle.streaming.specs.Choose.{if◌then◌else◌}
+use Rattle.streaming.specs.Choose.{when◌then◌else◌}
 use Rattle.streaming.specs.Numbers.{part_number}
 use Rattle.streaming.specs.declared.Part.{Part}
 use Rattle.streaming.specs.declared.SectionRecord.{SectionRecord}
@@ -59,7 +59,7 @@ module _ (src : List ℕ) (p : Part) (start : ℕ) (next : Account) where
 
   unfoldable pub section_crc_turn : (size computed stored : ℕ) → Turn
   section_crc_turn size computed stored =
-      if eqb stored computed then go framing (ask_section_end size) else bad (fault.SectionCrc (part_number p) computed stored)
+      when eqb stored computed then go framing (ask_section_end size) else bad (fault.SectionCrc (part_number p) computed stored)
 
   unfoldable pub ask_section_data : (size : ℕ) → Account
   ask_section_data size =
@@ -69,11 +69,11 @@ module _ (src : List ℕ) (p : Part) (start : ℕ) (next : Account) where
 -- the total is the locator's size
 module _ (src : List ℕ) (p : Part) (start total : ℕ) (next : Account) where
   unfoldable pub section_size_turn : (size : ℕ) → Turn
-  section_size_turn size = if eqb (frame + size) total then go framing (ask_section_data src p start next size) else bad (fault.SectionSize (part_number p))
+  section_size_turn size = when eqb (frame + size) total then go framing (ask_section_data src p start next size) else bad (fault.SectionSize (part_number p))
 
   unfoldable pub ask_section : Account
   ask_section =
-      if leb frame total then
+      when leb frame total then
       spell src start (start_sentinel p) (fault.SectionSentinel (part_number p))
       (go framing (span src (start + 16) 4 framing (section_size_turn (section_size src start))))
       else over (broken (fault.SectionSize (part_number p)))

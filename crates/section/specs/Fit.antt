@@ -1,6 +1,6 @@
 -- Which states of stages Vars and Classes a walk can reach.
 use Rattle.std.specs.Prelude.{ℕ, ◌+◌, ◌≤◌, ◌<◌, Bool, ◌&&◌, ◌≡◌, ltb, leb, eqb}
-use Rattle.streaming.specs.Choose.{if◌then◌else◌}
+use Rattle.streaming.specs.Choose.{when◌then◌else◌}
 use Rattle.streaming.specs.declared.FlatWalker.{FlatWalker}
 use Rattle.rules.specs.Section.{frame}
 use Rattle.chunk.specs.Fit.{no_object, no_entry}
@@ -8,7 +8,7 @@ use Rattle.section.specs.Section.{section_of}
 
 -- how far the section is: its size, once it is known, is the locator's, the total
 unfoldable pub section_done : (total done size : ℕ) → Bool
-section_done total done size = if ltb done 20 then eqb size 0 else eqb (frame + size) total
+section_done total done size = when ltb done 20 then eqb size 0 else eqb (frame + size) total
 
 -- the map and the objects are untouched
 unfoldable pub fit_section : FlatWalker → Bool

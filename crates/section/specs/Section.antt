@@ -3,7 +3,7 @@ use Rattle.std.specs.Prelude.{ℕ, ◌+◌, ◌-◌, List, length, take, ltb, le
 use Rattle.std.proofs.lemmas.List.Edits.{sets}
 use Rattle.crc.specs.Crc.{crc_of}
 use Rattle.octets.specs.Octets.{little_endian, same}
-use Rattle.streaming.specs.Choose.{if◌then◌else◌}
+use Rattle.streaming.specs.Choose.{when◌then◌else◌}
 use Rattle.streaming.specs.Numbers.{part_number}
 use Rattle.streaming.specs.State.{in_unit, failing, stepped, goes_on, fell}
 use Rattle.streaming.specs.declared.Locator.{Locator}
@@ -42,7 +42,7 @@ section_of s = locator_of s.header (part_number (part_of s.stage))
 unfoldable pub enter_section : FlatWalker → Stage → FlatWalker
 enter_section s g =
     let entered = in_unit s g 0 0 s.crc s.field in
-    if leb frame (locator_of s.header (part_number (part_of g))).size then entered else failing entered (fault.SectionSize (part_number (part_of g)))
+    when leb frame (locator_of s.header (part_number (part_of g))).size then entered else failing entered (fault.SectionSize (part_number (part_of g)))
 
 -- behind the header variables the classes, behind the classes the map
 abbrev pub enter_next : Stage → FlatWalker → FlatWalker
@@ -58,10 +58,10 @@ enter_next stage.Done s = s
 -- where the demand ends: the sentinel, the size, the data, the checksum, the sentinel
 unfoldable pub section_end : (done size : ℕ) → ℕ
 section_end done size =
-    if ltb done 16 then 16
-    else if ltb done 20 then 20
-    else if ltb done (20 + size) then 20 + size
-    else if ltb done (22 + size) then 22 + size
+    when ltb done 16 then 16
+    else when ltb done 20 then 20
+    else when ltb done (20 + size) then 20 + size
+    else when ltb done (22 + size) then 22 + size
     else frame + size
 
 unfoldable pub request_section : FlatWalker → Request
@@ -73,13 +73,13 @@ module _ (s : FlatWalker) where
   -- the size is whole: with the frame it has to be the locator's
   unfoldable pub settle_section_size : (crc : ℕ) (field : List ℕ) (size : ℕ) → Fed
   settle_section_size crc field size =
-      if eqb (frame + size) (section_of s).size then goes_on s 20 size crc field
+      when eqb (frame + size) (section_of s).size then goes_on s 20 size crc field
       else fell (fault.SectionSize (part_number (part_of s.stage))) s
 
   -- the checksum is whole
   unfoldable pub settle_section_crc : (field : List ℕ) (stored : ℕ) → Fed
   settle_section_crc field stored =
-      if eqb stored s.crc then goes_on s (22 + s.size) s.size s.crc field
+      when eqb stored s.crc then goes_on s (22 + s.size) s.size s.crc field
       else fell (fault.SectionCrc (part_number (part_of s.stage)) s.crc stored) s
 
   -- the last byte commits
@@ -90,7 +90,7 @@ module _ (s : FlatWalker) where
     -- a sentinel is compared piece by piece
     unfoldable pub feed_section_start : Fed
     feed_section_start =
-        if same piece (part (start_sentinel (part_of s.stage)) s.done (length piece)) then
+        when same piece (part (start_sentinel (part_of s.stage)) s.done (length piece)) then
         goes_on s (s.done + length piece) s.size seed s.field
         else fell (fault.SectionSentinel (part_number (part_of s.stage))) s
 
@@ -98,7 +98,7 @@ module _ (s : FlatWalker) where
     feed_section_size =
         let crc = crc_of s.crc piece in
         let field = sets s.field (s.done - 16) piece in
-        if eqb (s.done + length piece) 20 then settle_section_size crc field (little_endian field)
+        when eqb (s.done + length piece) 20 then settle_section_size crc field (little_endian field)
         else goes_on s (s.done + length piece) s.size crc field
 
     unfoldable pub feed_section_data : Fed
@@ -108,20 +108,20 @@ module _ (s : FlatWalker) where
     unfoldable pub feed_section_crc : Fed
     feed_section_crc =
         let field = sets s.field (s.done - (20 + s.size)) piece in
-        if eqb (s.done + length piece) (22 + s.size) then settle_section_crc field (little_endian (take 2 field))
+        when eqb (s.done + length piece) (22 + s.size) then settle_section_crc field (little_endian (take 2 field))
         else goes_on s (s.done + length piece) s.size s.crc field
 
     unfoldable pub feed_section_end : Fed
     feed_section_end =
-        if same piece (part (end_sentinel (part_of s.stage)) (s.done - (22 + s.size)) (length piece)) then
-        (if eqb (s.done + length piece) (frame + s.size) then settle_section
+        when same piece (part (end_sentinel (part_of s.stage)) (s.done - (22 + s.size)) (length piece)) then
+        (when eqb (s.done + length piece) (frame + s.size) then settle_section
         else goes_on s (s.done + length piece) s.size s.crc s.field)
         else fell (fault.SectionSentinel (part_number (part_of s.stage))) s
 
     unfoldable pub feed_section : Fed
     feed_section =
-        if ltb s.done 16 then feed_section_start
-        else if ltb s.done 20 then feed_section_size
-        else if ltb s.done (20 + s.size) then feed_section_data
-        else if ltb s.done (22 + s.size) then feed_section_crc
+        when ltb s.done 16 then feed_section_start
+        else when ltb s.done 20 then feed_section_size
+        else when ltb s.done (20 + s.size) then feed_section_data
+        else when ltb s.done (22 + s.size) then feed_section_crc
         else feed_section_end

@@ -13,7 +13,7 @@ use Rattle.crc.specs.Crc.{crc_of}
 use Rattle.crc.proofs.Laws.{crc_append}
 use Rattle.octets.specs.Octets.{big_endian}
 use Rattle.octets.proofs.Sets.{sets-append}
-use Rattle.streaming.specs.Choose.{if◌then◌else◌}
+use Rattle.streaming.specs.Choose.{when◌then◌else◌}
 use Rattle.streaming.specs.State.{in_unit}
 use Rattle.streaming.specs.declared.Fault.TheVariants as fault
 use Rattle.streaming.specs.declared.Asked.TheVariants as asked
@@ -39,15 +39,15 @@ use Rattle.stands.proofs.Entries.{entries_on_lem}
 
 module _ (d z : ℕ) where
   end_size : d < 2 → chunk_end d z ≡ 2
-  unfolding chunk_end if◌then◌else◌
+  unfolding chunk_end when◌then◌else◌
   end_size h = rw (lt-ltb d 2 h)
 
   end_entries : 2 ≤ d → d < z → chunk_end d z ≡ z
-  unfolding chunk_end if◌then◌else◌
+  unfolding chunk_end when◌then◌else◌
   end_entries h k = rw (le-ltb d 2 h, lt-ltb d z k)
 
   end_crc : 2 ≤ d → z ≤ d → chunk_end d z ≡ z + 2
-  unfolding chunk_end if◌then◌else◌
+  unfolding chunk_end when◌then◌else◌
   end_crc h k = rw (le-ltb d 2 h, le-ltb d z k)
 
 -- ---- each demand, told once
@@ -66,7 +66,7 @@ module _ (s : FlatWalker) (chunk : ℕ) (sound : s.failure ≡ failure.None) whe
 
   size_phase : (c : ℕ) (f : List ℕ) → Phase bare chunk 2 framing (λ q. within (length q) 0 c (sets f 0 q))
       (λ q w. outcome (settle_chunk_size (within (length q) 0 c (sets f 0 q)) (sets f 0 w) (big_endian (take 2 (sets f 0 w)))))
-  unfolding bare_feed feed_chunk feed_chunk_size if◌then◌else◌
+  unfolding bare_feed feed_chunk feed_chunk_size when◌then◌else◌
   size_phase c f =
       record {
         asking = λ q l. asks (length q) 0 c _ _ _ refl (omega (arith, end_size (length q) 0 l));
@@ -80,7 +80,7 @@ module _ (s : FlatWalker) (chunk : ℕ) (sound : s.failure ≡ failure.None) whe
   entries_phase : (z c : ℕ) (f : List ℕ)
       → Phase bare (chunk + 2) (z - 2) framing (λ q. within (2 + length q) z (crc_of c q) f)
       (λ q w. (framing, within (2 + length w) z (crc_of c w) f))
-  unfolding bare_feed feed_chunk feed_chunk_entries if◌then◌else◌
+  unfolding bare_feed feed_chunk feed_chunk_entries when◌then◌else◌
   entries_phase z c f =
       record {
         asking = λ q l. asks (2 + length q) z _ f _ _ (omega arith) (omega (arith, end_entries (2 + length q) z (omega arith) (omega arith)));
@@ -93,7 +93,7 @@ module _ (s : FlatWalker) (chunk : ℕ) (sound : s.failure ≡ failure.None) whe
   crc_phase : (z c : ℕ) (f : List ℕ) → 2 ≤ z
       → Phase bare (chunk + z) 2 framing (λ q. within (z + length q) z c (sets f 0 q))
       (λ q w. outcome (settle_chunk_crc (within (z + length q) z c (sets f 0 q)) (sets f 0 w) (big_endian (take 2 (sets f 0 w)))))
-  unfolding bare_feed feed_chunk feed_chunk_crc if◌then◌else◌
+  unfolding bare_feed feed_chunk feed_chunk_crc when◌then◌else◌
   crc_phase z c f h =
       record {
         asking = λ q l. asks (z + length q) z c _ _ _ (omega arith) (omega (arith, end_crc (z + length q) z (omega arith) (omega arith)));
@@ -185,7 +185,7 @@ module _ (src : List ℕ) (s : FlatWalker) (chunk : ℕ) (sound : s.failure ≡ 
 -- From any chunk on. The count bounds the recursion alone: it runs out behind the map's end.
 pub chunks_on_lem : (src : List ℕ) (k : ℕ) (s : FlatWalker) (chunk : ℕ) → s.failure ≡ failure.None → length s.field ≡ 4
     → map_end s.header ≤ chunk + k → On bare src (enter_chunk s chunk) (ask_chunks s.header src k chunk)
-unfolding enter_chunk ask_chunks chunk_size if◌then◌else◌
+unfolding enter_chunk ask_chunks chunk_size when◌then◌else◌
 chunks_on_lem src zero s chunk sound n h =
     rw (lt-leb (chunk + 4) (map_end s.header) (omega arith)) (on_failing src (chunk_at s chunk) (fault.MapChunk chunk))
 chunks_on_lem src (suc k) s chunk sound n h =

@@ -13,7 +13,7 @@ use lib.Bits.{bit_or, or_shifted_r}
 use lib.Seq.{take-nil}
 use lib.Pow.{pow-add}
 use borrow.Author.Tests.{ltb-true, ltb-false, lt-ltb, le-leb, lt-leb, eq-eqb, ne_eqb}
-use Rattle.streaming.specs.Choose.{if◌then◌else◌}
+use Rattle.streaming.specs.Choose.{when◌then◌else◌}
 use Rattle.streaming.specs.State.{with_map, at_entry, fell}
 use Rattle.streaming.specs.declared.Fault.TheVariants as fault
 use Rattle.streaming.specs.declared.Stage.{Stage}
@@ -58,7 +58,7 @@ module _ (src : List ℕ) (s : FlatWalker) (chunk len handle loc field : ℕ) wh
 
   -- its last byte, by all its groups and what they come to
   abbrev settles : FlatWalker → (groups : List ℕ) (value : ℕ) → Fed
-  settles st groups value = if eqb field 0 then settle_handle st value else settle_location st (moved_by (is_back groups) loc value)
+  settles st groups value = when eqb field 0 then settle_handle st value else settle_location st (moved_by (is_back groups) loc value)
 
   module _ (worth : List ℕ → ℕ) where
     -- From a byte of it on, by the groups that are read from k bytes of the n that are left: where it is whole, its last byte decides;
@@ -99,12 +99,12 @@ module _ (src : List ℕ) (s : FlatWalker) (chunk len handle loc field : ℕ) wh
       takes p = ap (λ (g : Stage). outcome (feed_at g here p)) walks
 
       byte_phase : Phase bare at 1 framing (λ q. here) (λ q w. outcome (feed_entry here (get_or w 0 0)))
-      unfolding if◌then◌else◌
+      unfolding when◌then◌else◌
       byte_phase = record { asking = λ q l. asks ∙ ap₂ demand (omega arith) (omega arith); taking = λ q p a k. takes p ∙ taken q p a k }
         where
           taken : (q p : List ℕ) → 0 < length p → length q + length p ≤ 1
               → outcome (feed_entry here (get_or p 0 0))
-              ≡ if eqb (length q + length p) 1 then outcome (feed_entry here (get_or (q ++ p) 0 0)) else (framing, here)
+              ≡ when eqb (length q + length p) 1 then outcome (feed_entry here (get_or (q ++ p) 0 0)) else (framing, here)
           taken [] p a k = rw (eq-eqb (0 + length p) 1 (omega arith))
           taken (b ∷ q) p a k = absurd (omega arith)
 
@@ -113,16 +113,16 @@ module _ (src : List ℕ) (s : FlatWalker) (chunk len handle loc field : ℕ) wh
 
       module _ (b : ℕ) where
         tenth_fed : 56 < shift → feed_entry here b ≡ fell (fault.MapEntry at) here
-        unfolding feed_entry if◌then◌else◌
+        unfolding feed_entry when◌then◌else◌
         tenth_fed h = rw (lt-leb shift 56 h)
 
         module _ (h : shift ≤ 56) (m : mc < 2 ^ shift) where
           last_fed : ltb b 0x80 ≡ true → feed_entry here b ≡ settles here (b ∷ []) (mc + 2 ^ shift * bits_of b field)
-          unfolding feed_entry settle_group is_back if◌then◌else◌
+          unfolding feed_entry settle_group is_back when◌then◌else◌
           last_fed e = rw (le-leb shift 56 h, group_sum shift mc (bits_of b field) m, e)
 
           more_fed : ltb b 0x80 ≡ false → feed_entry here b ≡ more_groups here (mc + 2 ^ shift * (b % 0x80))
-          unfolding feed_entry settle_group bits_of if◌then◌else◌
+          unfolding feed_entry settle_group bits_of when◌then◌else◌
           more_fed e = rw (le-leb shift 56 h, group_sum shift mc (bits_of b field) m, e)
 
     -- ---- byte by byte
@@ -147,14 +147,14 @@ module _ (src : List ℕ) (s : FlatWalker) (chunk len handle loc field : ℕ) wh
         module _ (l : ltb b 0x80 ≡ false) where
           -- the chunk ends in the delta
           used_fed : at + 1 ≡ chunk + len → feed_entry (in_delta at mc shift) b ≡ fell (fault.MapEntry at) (in_delta at mc shift)
-          unfolding more_groups if◌then◌else◌
+          unfolding more_groups when◌then◌else◌
           used_fed w = more_fed at mc shift b h m l ∙ rw (eq-eqb (at + 1) (chunk + len) w)
 
           -- the delta goes on
           more_on : at + 1 < chunk + len → (n : ℕ) (t : Turn) → 0 < n
               → On bare src (in_delta (at + 1) (mc + 2 ^ shift * (b % 0x80)) (shift + 7)) (one_by_one src (at + 1) n t)
               → On bare src (in_delta at mc shift) (one_by_one src at (suc n) t)
-          unfolding more_groups if◌then◌else◌
+          unfolding more_groups when◌then◌else◌
           more_on w n t z o =
               let x : suc n ≡ 1 + n = omega arith in
               rw (x, one_add src at 1 n t z)
@@ -194,21 +194,21 @@ module _ (src : List ℕ) (s : FlatWalker) (chunk len handle loc field : ℕ) wh
 -- ---- what the machine reads is what the rules read
 
 pub handle-last : (b : ℕ) → ltb b 0x80 ≡ true → bits_of b 0 ≡ handle_delta (b ∷ [])
-unfolding bits_of handle_delta if◌then◌else◌
+unfolding bits_of handle_delta when◌then◌else◌
 handle-last b e = rw e (omega arith)
 
 pub magnitude-last : (b : ℕ) → ltb b 0x80 ≡ true → bits_of b 1 ≡ magnitude (b ∷ [])
-unfolding bits_of magnitude if◌then◌else◌
+unfolding bits_of magnitude when◌then◌else◌
 magnitude-last b e = rw e
 
 -- a negative zero is zero
 pub moved_alike : (back : Bool) (location n : ℕ) → location < 2 ^ 63 → moved_by back location n ≡ moved location (signed back n)
-unfolding moved_by moved if◌then◌else◌
+unfolding moved_by moved when◌then◌else◌
 moved_alike false location n h = refl
 moved_alike true location zero h = rw (le-leb 0 location (omega arith), lt-ltb (location + 0) (2 ^ 63) (omega arith)) (ap some (omega arith))
 moved_alike true location (suc n) h = split (ltb location (suc n)) refl
   where
     split : (b : Bool) → ltb location (suc n) ≡ b
-        → (if leb (suc n) location then some (location - suc n) else none) ≡ (if ltb location (suc n) then none else some (location - suc n))
+        → (when leb (suc n) location then some (location - suc n) else none) ≡ (when ltb location (suc n) then none else some (location - suc n))
     split true e = rw (e, lt-leb (suc n) location (ltb-true location (suc n) e))
     split false e = rw (e, le-leb (suc n) location (ltb-false location (suc n) e))

@@ -8,7 +8,7 @@ use native.Mathlib.Omega.{arith}
 use lib.ListN.{length}
 use lib.Dec.{ltb, eqb}
 use borrow.Author.Tests.{ltb-true, ltb-false, eqb-true, eqb-false, eq-eqb, ne_eqb}
-use Rattle.streaming.specs.Choose.{if◌then◌else◌}
+use Rattle.streaming.specs.Choose.{when◌then◌else◌}
 use Rattle.streaming.specs.State.{in_unit, with_map, at_entry, stepped, fell}
 use Rattle.streaming.specs.declared.Step.TheVariants as step
 use Rattle.streaming.specs.declared.Fault.TheVariants as fault
@@ -90,7 +90,7 @@ module _ (src : List ℕ) (chunk len : ℕ) (inside : chunk + len ≤ length src
 
         moved_on : (groups : List ℕ) → Located (some groups) → 1 ≤ length groups → length groups ≤ n - m
             → (o : Option ℕ) → moved_by (is_back groups) loc (magnitude groups) ≡ o → Near o → Entered (entry_at (m + length groups) handle' o)
-        unfolding entry_at followed ask_entries settle_location if◌then◌else◌
+        unfolding entry_at followed ask_entries settle_location when◌then◌else◌
         moved_on groups told a b none e f =
             let x : at + (m + length groups) - 1 ≡ at + m + length groups - 1 = omega arith in
             rw (one_add src at m (length groups) _ a, x)
@@ -118,7 +118,7 @@ module _ (src : List ℕ) (chunk len : ℕ) (inside : chunk + len ≤ length src
         at_last_byte = with_map s (at_entry chunk len (at + g - 1) handle loc mc shift 0)
 
         handle_fed : 1 ≤ g → g ≤ n → settle_handle at_last_byte v
-            ≡ if ltb g n && ltb (handle + v) (2 ^ 64) then stepped step.Framing (with_map s (at_entry chunk len (at + g) (handle + v) loc 0 0 1))
+            ≡ when ltb g n && ltb (handle + v) (2 ^ 64) then stepped step.Framing (with_map s (at_entry chunk len (at + g) (handle + v) loc 0 0 1))
             else fell (fault.MapEntry (at + g - 1)) at_last_byte
         unfolding settle_handle
         handle_fed a b =
@@ -129,7 +129,7 @@ module _ (src : List ℕ) (chunk len : ℕ) (inside : chunk + len ≤ length src
       Handled = Begun src s chunk len handle loc 0 handle_delta at n
 
       handle_on : (o : Option (List ℕ)) → Short n o → Handled o → Entered (with_handle handle loc (part src at n) o)
-      unfolding with_handle followed ask_entries if◌then◌else◌
+      unfolding with_handle followed ask_entries when◌then◌else◌
       handle_on none c told = let l : length (part src at n) ≡ n = length_part src at n (omega arith) in rw l told
       handle_on (some groups) c told =
           let l : length (part src at n) ≡ n = length_part src at n (omega arith) in

@@ -3,7 +3,7 @@ use mathlib.Core.Bool.{Bool, true, false, ◌&&◌}
 use mathlib.Core.Path.{◌≡◌, refl, ap, subst, ◌∙◌}
 use lib.ListN.{length}
 use lib.Dec.{ltb, leb, eqb}
-use Rattle.streaming.specs.Choose.{if◌then◌else◌}
+use Rattle.streaming.specs.Choose.{when◌then◌else◌}
 use Rattle.streaming.specs.declared.FlatHeader.{FlatHeader}
 use Rattle.streaming.specs.declared.Asked.{Asked}
 use Rattle.streaming.specs.declared.Asked.TheVariants as asked
@@ -39,7 +39,7 @@ flat_walker = record { State = FlatWalker; start = begun; request = request_of; 
 -- ---- they do alike in a state that is fit or holds a failure
 
 pub same-request : (s : FlatWalker) → Keeps s → request_of s ≡ bare_request s
-unfolding request_of bare_request if◌then◌else◌
+unfolding request_of bare_request when◌then◌else◌
 same-request s kept = by_failure s.failure refl
   where
     by_failure : (f : Failure) → s.failure ≡ f → request_in f s ≡ bare_in f s
@@ -48,15 +48,15 @@ same-request s kept = by_failure s.failure refl
 
 -- by what is asked for
 offered_taken : (q : Asked) (s : FlatWalker) (c : Call)
-    → outcome (offered q s c.offset c.piece) ≡ if takes q c then bare_feed s c.piece else (answer.Refused (refusal q c), s)
-unfolding bare_feed if◌then◌else◌
+    → outcome (offered q s c.offset c.piece) ≡ when takes q c then bare_feed s c.piece else (answer.Refused (refusal q c), s)
+unfolding bare_feed when◌then◌else◌
 offered_taken asked.Nothing s c = refl
 offered_taken (asked.Refused e) s c = refl
 offered_taken (asked.Demand r) s c = split (eqb c.offset r.offset) refl (ltb 0 (length c.piece) && leb (length c.piece) r.len) refl
   where
     split : (a : Bool) → eqb c.offset r.offset ≡ a → (b : Bool) → (ltb 0 (length c.piece) && leb (length c.piece) r.len) ≡ b
         → outcome (offered (asked.Demand r) s c.offset c.piece)
-        ≡ if takes (asked.Demand r) c then bare_feed s c.piece else (answer.Refused (refusal (asked.Demand r) c), s)
+        ≡ when takes (asked.Demand r) c then bare_feed s c.piece else (answer.Refused (refusal (asked.Demand r) c), s)
     split true e true k = rw (e, k)
     split true e false k = rw (e, k)
     split false e b k = rw e

@@ -11,7 +11,7 @@ use borrow.Author.Tests.{eqb-true, eqb-false, eq-eqb, ne_eqb}
 use Rattle.crc.specs.Crc.{crc_of}
 use Rattle.crc.proofs.Laws.{crc_append}
 use Rattle.octets.proofs.Sets.{take-sets}
-use Rattle.streaming.specs.Choose.{if◌then◌else◌}
+use Rattle.streaming.specs.Choose.{when◌then◌else◌}
 use Rattle.streaming.specs.State.{failing, fell}
 use Rattle.streaming.specs.declared.Fault.{Fault}
 use Rattle.streaming.specs.declared.Answer.{Answer}
@@ -35,21 +35,21 @@ eqb_alike a b c d f g = split (eqb a b) refl
     split true e = e ∙ sym (eq-eqb c d (f (eqb-true a b e)))
     split false e = e ∙ sym (ne_eqb c d (λ q. eqb-false a b e (g q)))
 
-pub outcome_if : (b : Bool) (x y : Fed) → outcome (if b then x else y) ≡ if b then outcome x else outcome y
+pub outcome_if : (b : Bool) (x y : Fed) → outcome (when b then x else y) ≡ when b then outcome x else outcome y
 outcome_if b x y = choose_alike outcome b (λ e. refl) (λ e. refl)
 
 -- where the last of n bytes does as those before it
-pub if_last : (x : ℕ → Answer × FlatWalker) (k n : ℕ) → x k ≡ if eqb k n then x n else x k
-unfolding if◌then◌else◌
+pub if_last : (x : ℕ → Answer × FlatWalker) (k n : ℕ) → x k ≡ when eqb k n then x n else x k
+unfolding when◌then◌else◌
 if_last x k n = split (eqb k n) refl
   where
-    split : (b : Bool) → eqb k n ≡ b → x k ≡ if b then x n else x k
+    split : (b : Bool) → eqb k n ≡ b → x k ≡ when b then x n else x k
     split true e = ap x (eqb-true k n e)
     split false e = refl
 
 -- a test that makes no difference
-pub if_alike : (b : Bool) (x : Answer × FlatWalker) → x ≡ if b then x else x
-unfolding if◌then◌else◌
+pub if_alike : (b : Bool) (x : Answer × FlatWalker) → x ≡ when b then x else x
+unfolding when◌then◌else◌
 if_alike true x = refl
 if_alike false x = refl
 
@@ -70,8 +70,8 @@ module _ (src : List ℕ) where
   Land r t = Lands bare src (outcome r) t
 
   -- the machine and the rules make the same test
-  pub land_if : (b : Bool) {x y : Fed} {t u : Turn} → (b ≡ true → Land x t) → (b ≡ false → Land y u) → Land (if b then x else y) (if b then t else u)
-  unfolding if◌then◌else◌
+  pub land_if : (b : Bool) {x y : Fed} {t u : Turn} → (b ≡ true → Land x t) → (b ≡ false → Land y u) → Land (when b then x else y) (when b then t else u)
+  unfolding when◌then◌else◌
   land_if true h k = h refl
   land_if false h k = k refl
 
@@ -81,8 +81,8 @@ module _ (src : List ℕ) where
   -- ---- states that are entered
 
   pub on_if : (b : Bool) {x y : FlatWalker} {a u : Account} → (b ≡ true → On bare src x a) → (b ≡ false → On bare src y u)
-      → On bare src (if b then x else y) (if b then a else u)
-  unfolding if◌then◌else◌
+      → On bare src (when b then x else y) (when b then a else u)
+  unfolding when◌then◌else◌
   on_if true h k = h refl
   on_if false h k = k refl
 

@@ -7,7 +7,7 @@ use mathlib.Core.Logic.{◌⊎◌}
 use mathlib.Core.Path.{◌≡◌, ap, ◌∙◌}
 use native.Mathlib.Omega.{arith}
 use lib.ListN.{length}
-use Rattle.streaming.specs.Choose.{if◌then◌else◌}
+use Rattle.streaming.specs.Choose.{when◌then◌else◌}
 use Rattle.streaming.specs.Record.{objects_in, committed_in}
 use Rattle.streaming.specs.declared.FlatHeader.{FlatHeader}
 use Rattle.streaming.specs.declared.Fault.{Fault}
@@ -41,7 +41,7 @@ module _ (h : FlatHeader) where
     -- The call that takes a record's last byte, asked for that record, commits it if the rules do; no other call commits anything.
     pub last_byte : (cs : List Call) → Honest flat_walker src (begun h) cs → (c : Call) → HonestCall flat_walker src (run flat_walker (begun h) cs) c
         → committed_in (flat_walker.feed (run flat_walker (begun h) cs) c).0
-        ≡ if takes (flat_walker.request (run flat_walker (begun h) cs)) c
+        ≡ when takes (flat_walker.request (run flat_walker (begun h) cs)) c
         then committed_in (says_at (bytes flat_walker (begun h) cs + length c.piece) (rules h src)) else []
     last_byte = A.last_byte_commits Of rules (λ h src of. R.rules_tidy h src) flat_walker meets h src of
 

@@ -12,7 +12,7 @@ use Rattle.crc.specs.Crc.{crc_of}
 use Rattle.crc.proofs.Laws.{crc_append}
 use Rattle.octets.specs.Octets.{little_endian}
 use Rattle.octets.proofs.Sets.{sets-append, sets_front}
-use Rattle.streaming.specs.Choose.{if◌then◌else◌}
+use Rattle.streaming.specs.Choose.{when◌then◌else◌}
 use Rattle.streaming.specs.State.{in_unit, with_object}
 use Rattle.streaming.specs.declared.Part.TheVariants.{Object}
 use Rattle.streaming.specs.declared.Stage.TheVariants as stage
@@ -29,15 +29,15 @@ use Rattle.stands.proofs.Landing.{eqb_alike, outcome_if, if_alike}
 
 module _ (d z ms : ℕ) where
   end_word : ms ≡ 0 → object_end d z ms ≡ d - d % 2 + 2
-  unfolding object_end if◌then◌else◌
+  unfolding object_end when◌then◌else◌
   end_word h = rw (eq-eqb ms 0 h)
 
   end_data : 0 < ms → d < ms + z → object_end d z ms ≡ ms + z
-  unfolding object_end if◌then◌else◌
+  unfolding object_end when◌then◌else◌
   end_data h k = rw (ne_eqb ms 0 (omega arith), lt-ltb d (ms + z) k)
 
   end_crc : 0 < ms → ms + z ≤ d → object_end d z ms ≡ ms + z + 2
-  unfolding object_end if◌then◌else◌
+  unfolding object_end when◌then◌else◌
   end_crc h k = rw (ne_eqb ms 0 (omega arith), le-ltb d (ms + z) k)
 
 -- ---- each demand, told once
@@ -60,7 +60,7 @@ module _ (s : FlatWalker) (location : ℕ) (sound : s.failure ≡ failure.None) 
       → Phase bare (location + k) 2 framing (λ q. inside (k + length q) z (crc_of c q) (sets f 0 q) h 0 wd)
       (λ q w. outcome (settle_word (inside (k + length q) z (crc_of c q) (sets f 0 q) h 0 wd) (k + length w) (crc_of c w) (sets f 0 w)
       (little_endian (take 2 (sets f 0 w)))))
-  unfolding bare_feed feed_object feed_word if◌then◌else◌
+  unfolding bare_feed feed_object feed_word when◌then◌else◌
   word_phase k z c f h wd e =
       record {
         asking = λ q l. asks (k + length q) z _ _ h 0 wd _ _ (omega arith) (omega (arith, end_word (k + length q) z 0 refl));
@@ -80,7 +80,7 @@ module _ (s : FlatWalker) (location : ℕ) (sound : s.failure ≡ failure.None) 
   pub data_phase : (z c : ℕ) (f h : List ℕ) (ms wd : ℕ) → 0 < ms
       → Phase bare (location + ms) z (payload Object) (λ q. inside (ms + length q) z (crc_of c q) f (sets h 0 (take 16 q)) ms wd)
       (λ q w. (payload Object, inside (ms + length w) z (crc_of c w) f (sets h 0 (take 16 w)) ms wd))
-  unfolding bare_feed feed_object feed_object_data if◌then◌else◌
+  unfolding bare_feed feed_object feed_object_data when◌then◌else◌
   data_phase z c f h ms wd n =
       record {
         asking = λ q l. asks (ms + length q) z _ f _ ms wd _ _ (omega arith) (omega (arith, end_data (ms + length q) z ms n (omega arith)));
@@ -95,7 +95,7 @@ module _ (s : FlatWalker) (location : ℕ) (sound : s.failure ≡ failure.None) 
   pub crc_phase : (z c : ℕ) (f h : List ℕ) (ms wd : ℕ) → 0 < ms
       → Phase bare (location + ms + z) 2 framing (λ q. inside (ms + z + length q) z c (sets f 0 q) h ms wd)
       (λ q w. outcome (settle_object_crc (inside (ms + z + length q) z c (sets f 0 q) h ms wd) (sets f 0 w) (little_endian (take 2 (sets f 0 w)))))
-  unfolding bare_feed feed_object feed_object_crc if◌then◌else◌
+  unfolding bare_feed feed_object feed_object_crc when◌then◌else◌
   crc_phase z c f h ms wd n =
       record {
         asking = λ q l. asks (ms + z + length q) z c _ h ms wd _ _ (omega arith) (omega (arith, end_crc (ms + z + length q) z ms n (omega arith)));

@@ -13,7 +13,7 @@ use borrow.Author.Tests.{ltb-true}
 use Rattle.crc.specs.Crc.{crc_of}
 use Rattle.octets.specs.Octets.{little_endian}
 use Rattle.octets.proofs.Sets.{take-sets}
-use Rattle.streaming.specs.Choose.{if◌then◌else◌}
+use Rattle.streaming.specs.Choose.{when◌then◌else◌}
 use Rattle.streaming.specs.State.{in_unit, with_object, fell}
 use Rattle.streaming.specs.declared.Part.TheVariants.{Object}
 use Rattle.streaming.specs.declared.Fault.TheVariants as fault
@@ -78,7 +78,7 @@ module _ (src : List ℕ) (s : FlatWalker) (location : ℕ) (sound : s.failure �
 
   -- behind the first word
   abbrev word_turn : ℕ → Size → Turn
-  word_turn v x = if is_last v then size_turn x else go framing (span src (location + 2) 2 framing (size_turn x))
+  word_turn v x = when is_last v then size_turn x else go framing (span src (location + 2) 2 framing (size_turn x))
 
   verdict_lands : (d z c : ℕ) (f h : List ℕ) (ms wd : ℕ) (field : List ℕ) → length field ≡ 4 → length h ≡ 16 → (v : Verdict)
       → Land src (settle_verdict (inside d z c f h ms wd) field v) (verdict_turn next v)
@@ -90,13 +90,13 @@ module _ (src : List ℕ) (s : FlatWalker) (location : ℕ) (sound : s.failure �
       → x ≡ object_stored src location ms z → c ≡ object_computed src location ms z → take (min z 16) h ≡ take 16 (part src (location + ms) z)
       → Land src (settle_object_crc (inside d z c f h ms wd) field x)
       (verdict_turn next (verdict s.header src handle location ms z))
-  unfolding settle_object_crc verdict verdict_turn if◌then◌else◌
+  unfolding settle_object_crc verdict verdict_turn when◌then◌else◌
   crc_lands d z c f h ms wd field x n m ex ec eh = rw (← ex, ← ec, ← eh) (split (eqb x c))
     where
-      split : (b : Bool) → Land src (if b then settle_verdict (inside d z c f h ms wd) field
+      split : (b : Bool) → Land src (when b then settle_verdict (inside d z c f h ms wd) field
           (named handle location z (prologue_of (is_r2000 s.header) (take (min z 16) h))) else fell (fault.ObjectCrc handle c x) (inside d z c f h ms wd))
           (verdict_turn next
-          (if b then named handle location z (prologue_of (is_r2000 s.header) (take (min z 16) h)) else fails (fault.ObjectCrc handle c x)))
+          (when b then named handle location z (prologue_of (is_r2000 s.header) (take (min z 16) h)) else fails (fault.ObjectCrc handle c x)))
       split true = verdict_lands d z c f h ms wd field n m _
       split false = land_fell src (inside d z c f h ms wd) (fault.ObjectCrc handle c x)
 
@@ -132,13 +132,13 @@ module _ (src : List ℕ) (s : FlatWalker) (location : ℕ) (sound : s.failure �
 
   second_lands : (d c : ℕ) (f h field : List ℕ) (v w : ℕ) → is_last v ≡ false → length field ≡ 4 → length h ≡ 16
       → Land src (settle_word (inside d (v % 0x8000) c f h 0 1) 4 (checksum (part src location 4)) field w) (size_turn (size_of_words v w))
-  unfolding settle_word size_of_words object_size_turn if◌then◌else◌
+  unfolding settle_word size_of_words object_size_turn when◌then◌else◌
   second_lands d c f h field v w e n m = rw e (split (is_last w) refl)
     where
       split : (b : Bool) → is_last w ≡ b → Land src
-          (if b then settle_object_size (inside d (v % 0x8000) c f h 0 1) 4 (bit_or (v % 0x8000) (w % 0x8000 * 2 ^ 15)) (checksum (part src location 4)) field
+          (when b then settle_object_size (inside d (v % 0x8000) c f h 0 1) 4 (bit_or (v % 0x8000) (w % 0x8000 * 2 ^ 15)) (checksum (part src location 4)) field
           else fell (fault.ObjectSize handle) (inside d (v % 0x8000) c f h 0 1))
-          (size_turn (if b then sized 4 (v % 0x8000 + 0x8000 * w) else unending))
+          (size_turn (when b then sized 4 (v % 0x8000 + 0x8000 * w) else unending))
       split true t =
           let l : w < 0x8000 = ltb-true w 0x8000 t in
           let z : bit_or (v % 0x8000) (w % 0x8000 * 2 ^ 15) ≡ v % 0x8000 + 0x8000 * w =
@@ -161,7 +161,7 @@ module _ (src : List ℕ) (s : FlatWalker) (location : ℕ) (sound : s.failure �
 
   first_lands : (d c : ℕ) (f h field : List ℕ) (v : ℕ) → length field ≡ 4 → length h ≡ 16
       → Land src (settle_word (inside d 0 c f h 0 0) 2 (checksum (part src location 2)) field v) (word_turn v (size_of_words v second_word))
-  unfolding settle_word size_of_words if◌then◌else◌
+  unfolding settle_word size_of_words when◌then◌else◌
   first_lands d c f h field v n m =
       land_if src (is_last v)
       (λ t.

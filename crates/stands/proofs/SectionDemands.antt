@@ -13,7 +13,7 @@ use Rattle.crc.proofs.Laws.{crc_append}
 use Rattle.octets.specs.Octets.{little_endian}
 use Rattle.octets.proofs.Sets.{sets-append}
 use Rattle.octets.proofs.Sameness.{eq_same, ne_same}
-use Rattle.streaming.specs.Choose.{if◌then◌else◌}
+use Rattle.streaming.specs.Choose.{when◌then◌else◌}
 use Rattle.streaming.specs.Numbers.{part_number}
 use Rattle.streaming.specs.State.{in_unit, failing}
 use Rattle.streaming.specs.declared.Fault.{Fault}
@@ -58,23 +58,23 @@ feeds classes s p = refl
 
 module _ (d z : ℕ) where
   end_start : d < 16 → section_end d z ≡ 16
-  unfolding section_end if◌then◌else◌
+  unfolding section_end when◌then◌else◌
   end_start h = rw (lt-ltb d 16 h)
 
   end_size : 16 ≤ d → d < 20 → section_end d z ≡ 20
-  unfolding section_end if◌then◌else◌
+  unfolding section_end when◌then◌else◌
   end_size h k = rw (le-ltb d 16 h, lt-ltb d 20 k)
 
   end_data : 20 ≤ d → d < 20 + z → section_end d z ≡ 20 + z
-  unfolding section_end if◌then◌else◌
+  unfolding section_end when◌then◌else◌
   end_data h k = rw (le-ltb d 16 (omega arith), le-ltb d 20 h, lt-ltb d (20 + z) k)
 
   end_crc : 20 + z ≤ d → d < 22 + z → section_end d z ≡ 22 + z
-  unfolding section_end if◌then◌else◌
+  unfolding section_end when◌then◌else◌
   end_crc h k = rw (le-ltb d 16 (omega arith), le-ltb d 20 (omega arith), le-ltb d (20 + z) h, lt-ltb d (22 + z) k)
 
   end_end : 22 + z ≤ d → section_end d z ≡ 38 + z
-  unfolding section_end if◌then◌else◌
+  unfolding section_end when◌then◌else◌
   end_end h = rw (le-ltb d 16 (omega arith), le-ltb d 20 (omega arith), le-ltb d (20 + z) (omega arith), le-ltb d (22 + z) h)
 
 -- ---- each demand
@@ -108,7 +108,7 @@ module _ (s : FlatWalker) (g : Stage) (isg : InSection g) (sound : s.failure ≡
 
   pub start_spelled : (c : ℕ) (f : List ℕ) → Spelled bare offset (start_sentinel (part_of g)) wrong (λ d. inside d 0 (start_crc c d) f)
       (λ d. failing (inside d 0 (start_crc c d) f) wrong) (λ d. (framing, inside 16 0 seed f))
-  unfolding feed_section feed_section_start if◌then◌else◌
+  unfolding feed_section feed_section_start when◌then◌else◌
   start_spelled c f =
       let n : length (start_sentinel (part_of g)) ≡ 16 = length-start (is_section isg) in
       record {
@@ -122,7 +122,7 @@ module _ (s : FlatWalker) (g : Stage) (isg : InSection g) (sound : s.failure ≡
 
   pub size_phase : (f : List ℕ) → Phase bare (offset + 16) 4 framing (λ q. inside (16 + length q) 0 (crc_of seed q) (sets f 0 q))
       (λ q w. outcome (settle_section_size (inside (16 + length q) 0 (crc_of seed q) (sets f 0 q)) (crc_of seed w) (sets f 0 w) (little_endian (sets f 0 w))))
-  unfolding feed_section feed_section_size if◌then◌else◌
+  unfolding feed_section feed_section_size when◌then◌else◌
   size_phase f =
       record {
         asking = λ q l. asks (16 + length q) 0 _ _ _ _ (omega arith) (omega (arith, end_size (16 + length q) 0 (omega arith) (omega arith)));
@@ -144,7 +144,7 @@ module _ (s : FlatWalker) (g : Stage) (isg : InSection g) (sound : s.failure ≡
 
   pub data_phase : (z c : ℕ) (f : List ℕ) → Phase bare (offset + 20) z (payload (part_of g)) (λ q. inside (20 + length q) z (crc_of c q) f)
       (λ q w. (payload (part_of g), inside (20 + length w) z (crc_of c w) f))
-  unfolding feed_section feed_section_data if◌then◌else◌
+  unfolding feed_section feed_section_data when◌then◌else◌
   data_phase z c f =
       record {
         asking = λ q l. asks (20 + length q) z _ f _ _ (omega arith) (omega (arith, end_data (20 + length q) z (omega arith) (omega arith)));
@@ -163,7 +163,7 @@ module _ (s : FlatWalker) (g : Stage) (isg : InSection g) (sound : s.failure ≡
 
   pub crc_phase : (z c : ℕ) (f : List ℕ) → Phase bare (offset + 20 + z) 2 framing (λ q. inside (20 + z + length q) z c (sets f 0 q))
       (λ q w. outcome (settle_section_crc (inside (20 + z + length q) z c (sets f 0 q)) (sets f 0 w) (little_endian (take 2 (sets f 0 w)))))
-  unfolding feed_section feed_section_crc if◌then◌else◌
+  unfolding feed_section feed_section_crc when◌then◌else◌
   crc_phase z c f =
       record {
         asking = λ q l. asks (20 + z + length q) z c _ _ _ (omega arith) (omega (arith, end_crc (20 + z + length q) z (omega arith) (omega arith)));
@@ -185,13 +185,13 @@ module _ (s : FlatWalker) (g : Stage) (isg : InSection g) (sound : s.failure ≡
       }
 
   feed_end : (d z c : ℕ) (f p : List ℕ) → 22 + z ≤ d → bare_feed (inside d z c f) p ≡ outcome (feed_section_end (inside d z c f) p)
-  unfolding feed_section if◌then◌else◌
+  unfolding feed_section when◌then◌else◌
   feed_end d z c f p h =
       fed d z c f p ∙ rw (le-ltb d 16 (omega arith), le-ltb d 20 (omega arith), le-ltb d (20 + z) (omega arith), le-ltb d (22 + z) h)
 
   pub end_spelled : (z c : ℕ) (f : List ℕ) → Spelled bare (offset + 22 + z) (end_sentinel (part_of g)) wrong (λ d. inside (22 + z + d) z c f)
       (λ d. failing (inside (22 + z + d) z c f) wrong) (λ d. outcome (settle_section (inside (22 + z + d) z c f)))
-  unfolding feed_section_end if◌then◌else◌
+  unfolding feed_section_end when◌then◌else◌
   end_spelled z c f =
       let n : length (end_sentinel (part_of g)) ≡ 16 = length_end (is_section isg) in
       record {

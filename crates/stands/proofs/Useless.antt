@@ -5,7 +5,7 @@ use mathlib.Core.List.{[], ◌∷◌}
 use mathlib.Core.Path.{◌≡◌, refl, sym, ap, ◌∙◌}
 use native.Mathlib.Omega.{arith}
 use lib.ListN.{length}
-use Rattle.streaming.specs.Choose.{if◌then◌else◌}
+use Rattle.streaming.specs.Choose.{when◌then◌else◌}
 use Rattle.streaming.specs.Record.{committed_in}
 use Rattle.streaming.specs.declared.FlatHeader.{FlatHeader}
 use Rattle.streaming.specs.declared.FlatWalker.{FlatWalker}
@@ -102,7 +102,7 @@ eager = record {
   State = Bool × FlatWalker;
   start = λ h. (true, begun h);
   request = λ s. flat_walker.request s.1;
-  feed = λ s c. (if s.0 then early else framing, (false, (flat_feed s.1 c).1));
+  feed = λ s c. (when s.0 then early else framing, (false, (flat_feed s.1 c).1));
   end_of_input = λ s. flat_walker.end_of_input s.1;
 }
 

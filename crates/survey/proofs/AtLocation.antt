@@ -7,7 +7,7 @@ use native.Mathlib.Omega.{arith}
 use lib.ListN.{length, drop}
 use lib.Seq.{take-take}
 use borrow.Author.Tests.{lt-ltb, le-ltb, eq-eqb, ne_eqb}
-use Rattle.streaming.specs.Choose.{if◌then◌else◌}
+use Rattle.streaming.specs.Choose.{when◌then◌else◌}
 use Rattle.streaming.specs.declared.FlatHeader.{FlatHeader}
 use Rattle.streaming.specs.declared.Fault.TheVariants as fault
 use Rattle.account.specs.Statement.{part}
@@ -37,12 +37,12 @@ module _ (h : FlatHeader) (src : List ℕ) (handle location : ℕ) (rest : Listi
     words = rw (take-take 2 4 (drop location src) (omega arith), w)
 
     pub one_word : word < 0x8000 → goes ≡ sized_then h src handle location (sized 2 word) rest
-    unfolding object_then require lacks_second_word size_of_words if◌then◌else◌
+    unfolding object_then require lacks_second_word size_of_words when◌then◌else◌
     one_word l = rw (m, words, ← w, lt-ltb word 0x8000 l)
 
     module _ (o : 0x8000 ≤ word) where
       pub stalls : h.length < location + 4 → goes ≡ stop (demand h.length (location + 4 - h.length))
-      unfolding object_then require lacks_second_word if◌then◌else◌
+      unfolding object_then require lacks_second_word when◌then◌else◌
       stalls l = rw (m, ← w, le-ltb word 0x8000 o, lt-ltb h.length (location + 4) l)
 
       module _ (i : location + 4 ≤ h.length) (n : length src ≡ h.length) (second : ℕ) (s : second ≡ little_endian (part src (location + 2) 2)) where
@@ -50,11 +50,11 @@ module _ (h : FlatHeader) (src : List ℕ) (handle location : ℕ) (rest : Listi
         both_words = words ∙ rw (part-drop src location 2 4 (omega arith) (omega arith), s)
 
         pub endless : 0x8000 ≤ second → goes ≡ stop (broken (fault.ObjectSize handle))
-        unfolding object_then require lacks_second_word sized_then size_of_words if◌then◌else◌
+        unfolding object_then require lacks_second_word sized_then size_of_words when◌then◌else◌
         endless l = rw (m, both_words, ← w, le-ltb word 0x8000 o, le-ltb h.length (location + 4) i, le-ltb second 0x8000 l)
 
         pub two_words_lem : second < 0x8000 → goes ≡ sized_then h src handle location (sized 4 (word % 0x8000 + 0x8000 * second)) rest
-        unfolding object_then require lacks_second_word size_of_words if◌then◌else◌
+        unfolding object_then require lacks_second_word size_of_words when◌then◌else◌
         two_words_lem l = rw (m, both_words, ← w, le-ltb word 0x8000 o, le-ltb h.length (location + 4) i, lt-ltb second 0x8000 l)
 
 -- ---- its end
@@ -82,11 +82,11 @@ module _ (h : FlatHeader) (src : List ℕ) (handle location field size : ℕ) (r
 module _ (h : FlatHeader) (src : List ℕ) (handle location field size : ℕ) (computed stored : ℕ)
     (c : computed ≡ object_computed src location field size) (d : stored ≡ object_stored src location field size) where
   pub other_crc : (stored ≡ computed → ⊥) → fails (fault.ObjectCrc handle computed stored) ≡ verdict h src handle location field size
-  unfolding verdict if◌then◌else◌
+  unfolding verdict when◌then◌else◌
   other_crc k = rw (← c, ← d, ne_eqb stored computed k)
 
   -- of the data's bytes 16 at most are looked at
   pub by_prologue : stored ≡ computed
       → verdict h src handle location field size ≡ named handle location size (prologue_of (is_r2000 h) (part src (location + field) (min size 16)))
-  unfolding verdict if◌then◌else◌
+  unfolding verdict when◌then◌else◌
   by_prologue k = rw (← c, ← d, eq-eqb stored computed k, take_min 16 size (drop (location + field) src))

@@ -10,7 +10,7 @@ use lib.Seq.{take-take, drop-cons, drop-length}
 use native.Mathlib.Nat.{pow-succ', pow-le-pow_right, mul-le-mul_left}
 use lib.Dec.{ltb, eqb}
 use borrow.Author.Tests.{lt-ltb, le-ltb, eqb-true, eqb-false}
-use Rattle.streaming.specs.Choose.{if◌then◌else◌}
+use Rattle.streaming.specs.Choose.{when◌then◌else◌}
 use Rattle.streaming.proofs.Choose.{in_both}
 use Rattle.rules.specs.Entry.{before, groups_of, delta_in, handle_delta, magnitude, is_back}
 use Rattle.rules.proofs.Entry.{Short, groups_short}
@@ -32,7 +32,7 @@ goes_further bytes i g h j l = split (eqb j i) refl
 
 pub groups_whole : (bytes : List ℕ) (k i : ℕ) → i < k → i < length bytes → GoesOn bytes i → get_or bytes i 0 < 0x80
     → groups_of (take k bytes) ≡ some (take (suc i) bytes)
-unfolding groups_of if◌then◌else◌
+unfolding groups_of when◌then◌else◌
 groups_whole [] k i a l g h = absurd (omega arith)
 groups_whole (b ∷ bs) zero i a l g h = absurd (omega arith)
 groups_whole (b ∷ bs) (suc k) zero a l g h = rw (lt-ltb b 0x80 h)
@@ -40,7 +40,7 @@ groups_whole (b ∷ bs) (suc k) (suc i) a l g h =
     rw (le-ltb b 0x80 (g 0 (omega arith)), groups_whole bs k i (omega arith) (omega arith) (λ j m. g (suc j) (omega arith)) h)
 
 pub groups_unending : (bytes : List ℕ) (k i : ℕ) → min k (length bytes) ≤ i → GoesOn bytes i → groups_of (take k bytes) ≡ none
-unfolding groups_of if◌then◌else◌
+unfolding groups_of when◌then◌else◌
 groups_unending [] zero i a g = refl
 groups_unending [] (suc k) i a g = refl
 groups_unending (b ∷ bs) zero i a g = refl

@@ -4,7 +4,7 @@ use mathlib.Core.Bool.{true, false}
 use mathlib.Core.List.{List}
 use mathlib.Core.Path.{◌≡◌}
 use borrow.Author.Tests.{le-leb, lt-leb, eq-eqb, ne_eqb}
-use Rattle.streaming.specs.Choose.{if◌then◌else◌}
+use Rattle.streaming.specs.Choose.{when◌then◌else◌}
 use Rattle.streaming.specs.declared.FlatHeader.{FlatHeader}
 use Rattle.streaming.specs.declared.Asked.TheVariants as asked
 use Rattle.streaming.specs.declared.Fault.TheVariants as fault
@@ -37,14 +37,14 @@ module _ (h : FlatHeader) (src : List ℕ) (chunk : ℕ) (rest : Listing) where
         checked = rw (le-leb (chunk + 4) (map_end h) i, ← z, f, ← c, ← d, eq-eqb stored computed k)
 
         pub with_entries : (size ≡ 2 → ⊥) → goes ≡ entries_then h src (chunk_entries src chunk size) (chunk + 2) rest
-        unfolding checked_chunk_then if◌then◌else◌
+        unfolding checked_chunk_then when◌then◌else◌
         with_entries n = rw (checked, ne_eqb size 2 n)
 
         module _ (t : size ≡ 2) where
           pub ends-map : chunk + 4 ≡ map_end h → goes ≡ stop asked.Nothing
-          unfolding checked_chunk_then require if◌then◌else◌
+          unfolding checked_chunk_then require when◌then◌else◌
           ends-map e = rw (checked, eq-eqb size 2 t, eq-eqb (chunk + 4) (map_end h) e)
 
           pub ends-early : (chunk + 4 ≡ map_end h → ⊥) → goes ≡ stop (broken (fault.MapChunk chunk))
-          unfolding checked_chunk_then require if◌then◌else◌
+          unfolding checked_chunk_then require when◌then◌else◌
           ends-early e = rw (checked, eq-eqb size 2 t, ne_eqb (chunk + 4) (map_end h) e)

@@ -5,7 +5,7 @@ use mathlib.Core.Path.{◌≡◌, refl, sym, ap, ◌∙◌}
 use native.Mathlib.Omega.{arith}
 use lib.ListN.{length, set}
 use borrow.Author.Tests.{le-ltb}
-use Rattle.streaming.specs.Choose.{if◌then◌else◌}
+use Rattle.streaming.specs.Choose.{when◌then◌else◌}
 use Rattle.streaming.specs.Record.{Record, section, object, objects_in}
 use Rattle.streaming.specs.declared.FlatHeader.{FlatHeader}
 use Rattle.streaming.specs.declared.Part.TheVariants.{HeaderVars, Classes}
@@ -36,7 +36,7 @@ objects_counted (object r ∷ rs) = ap suc (objects_counted rs)
 
 module _ (h : FlatHeader) (src : List ℕ) (of : Of h src) where
   of_listing : survey_of h src ≡ listed (plain_list h src)
-  unfolding survey_of length_refusal if◌then◌else◌
+  unfolding survey_of length_refusal when◌then◌else◌
   of_listing = rw (of.starts, le-ltb h.length (length src) (omega (arith, of.whole)), le-ltb (length src) h.length (omega (arith, of.whole)))
 
   -- The answer is that of the rules' account: the records that a walk by calls commits, and its ending.

@@ -9,7 +9,7 @@ use lib.ListN.{length, take, drop}
 use lib.Seq.{length-take-le}
 use lib.Dec.{ltb}
 use borrow.Author.Tests.{lt-ltb, le-ltb}
-use Rattle.streaming.specs.Choose.{if◌then◌else◌}
+use Rattle.streaming.specs.Choose.{when◌then◌else◌}
 use Rattle.rules.specs.Entry.{delta_in, handle_delta, magnitude, is_back, ahead, back, signed, location_delta, moved}
 use Rattle.rules.specs.Entry.{refused, entry_at, with_location, with_handle, entry_in}
 use Rattle.survey.specs.Entries.{entry_read, moved_to}
@@ -57,19 +57,19 @@ module _ (n m handle location value : ℕ) (back : Bool) (bytes : List ℕ) (w :
 
 module _ (n handle location value : ℕ) (bytes : List ℕ) (w : Whole bytes n) (is-value : value ≡ handle_delta (take n bytes)) where
   handled : entry_in handle location bytes
-      ≡ if ltb n (length bytes) && ltb (handle + value) (2 ^ 64) then with_location n (handle + value) location (drop n bytes) (delta_in (drop n bytes)) else refused n
+      ≡ when ltb n (length bytes) && ltb (handle + value) (2 ^ 64) then with_location n (handle + value) location (drop n bytes) (delta_in (drop n bytes)) else refused n
   unfolding with_handle
   handled = rw (w.read, length-take-le n bytes w.inside, is-value)
 
   pub handle-ends : length bytes ≤ n → entry.Refused n ≡ entry_read (entry_in handle location bytes)
-  unfolding if◌then◌else◌
+  unfolding when◌then◌else◌
   handle-ends h = rw (handled, le-ltb n (length bytes) h)
 
   pub handle_past : 2 ^ 64 ≤ handle + value → entry.Refused n ≡ entry_read (entry_in handle location bytes)
-  unfolding if◌then◌else◌
+  unfolding when◌then◌else◌
   handle_past h = rw (handled, le-ltb (handle + value) (2 ^ 64) h, and-false (ltb n (length bytes)))
 
   pub handle-leads : n < length bytes → handle + value < 2 ^ 64
       → entry_in handle location bytes ≡ with_location n (handle + value) location (drop n bytes) (delta_in (drop n bytes))
-  unfolding if◌then◌else◌
+  unfolding when◌then◌else◌
   handle-leads h k = rw (handled, lt-ltb n (length bytes) h, lt-ltb (handle + value) (2 ^ 64) k)

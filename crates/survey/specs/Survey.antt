@@ -1,7 +1,7 @@
 -- What the walk over a whole source comes to, by the rules' plain list and its ending.
 use Rattle.std.specs.Prelude.{ℕ, zero, suc, ◌-◌, List, [], ◌∷◌, length, ltb}
 use Rattle.std.proofs.Math.Option.{Option, none, some}
-use Rattle.streaming.specs.Choose.{if◌then◌else◌}
+use Rattle.streaming.specs.Choose.{when◌then◌else◌}
 use Rattle.streaming.specs.Record.{Record, section, object}
 use Rattle.streaming.specs.declared.FlatHeader.{FlatHeader}
 use Rattle.streaming.specs.declared.SectionRecord.{SectionRecord}
@@ -52,8 +52,8 @@ refused_walk e = record { vars = found.None; classes = found.None; count = 0; en
 -- a source longer than the header says is refused as a piece too long is (5), a shorter one as an end too early (6)
 unfoldable pub length_refusal : FlatHeader → (n : ℕ) → Option StreamError
 length_refusal h n =
-    if ltb h.length n then some (error.InvalidFeed h.length n)
-    else if ltb n h.length then some (error.Truncated n (h.length - n))
+    when ltb h.length n then some (error.InvalidFeed h.length n)
+    else when ltb n h.length then some (error.Truncated n (h.length - n))
     else none
 
 -- the first refusal that there is, or else the walk

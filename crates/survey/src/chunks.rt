@@ -27,8 +27,8 @@ pub fn broken(f: Fault) -> Asked
 // The chunk at a place: its size and its checksum are looked at. One with no entries ends the walk, and has to end the map.
 pub fn chunk_at(h: FlatHeader, rows: &[[u16; 256]; 8], src: &[u8], chunk: usize) -> ChunkRead
     requires { Table rows.now × (map_end h ≤ length src.now) × (chunk < 2 ^ 34) }
-    ensures rest_value { (rest : Listing) → chunk_then h src.now chunk (chunk_size src.now chunk) rest ≡ chunk_goes h src.now chunk result rest }
-    ensures entries_fit { EntriesFit h src.now chunk result }
+    ensures goes { (rest : Listing) → chunk_then h src.now chunk (chunk_size src.now chunk) rest ≡ chunk_goes h src.now chunk result rest }
+    ensures fits { EntriesFit h src.now chunk result }
 {
     let end = header::map_end(h) as usize;
     if end < chunk + 4 {

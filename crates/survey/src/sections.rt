@@ -3,7 +3,7 @@ ghost use Rattle.std.specs.Prelude.{[], ◌≡◌, ◌+◌, ◌<◌, ◌≤◌, 
 ghost use Rattle.crc.specs.Rows.{Table};
 ghost use Rattle.octets.specs.Octets.{same};
 ghost use Rattle.streaming.specs.Numbers.{part_number};
-ghost use Rattle.account.specs.Statement.{part};
+ghost use Rattle.account.specs.Statement.{part as span};
 ghost use Rattle.rules.specs.Section.{sentinels};
 ghost use Rattle.rules.specs.PlainList.{Listing, section_then};
 ghost use Rattle.survey.specs.Goes.{section_goes};
@@ -21,7 +21,7 @@ pub enum SectionRead {
 // Whether the sentinel of a part stands at a place: the one at its start 0, the one at its end 1.
 fn sentinel_at(src: &[u8], part: u8, end: usize, at: usize) -> bool
     requires { (part < 2) × (end < 2) × (at + 16 ≤ length src.now) }
-    ensures { result ≡ same (part src.now at 16) (get_or (get_or sentinels part []) end []) }
+    ensures { result ≡ same (span src.now at 16) (get_or (get_or sentinels part []) end []) }
 {
     let to = at + 16;
     section::sentinels::spells(part as usize, end, 0, &src[at..to])

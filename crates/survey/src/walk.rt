@@ -36,8 +36,8 @@ pub struct Counted {
 // The next entry of a chunk whose entries end there, and its object.
 fn next_of(h: FlatHeader, rows: &[[u16; 256]; 8], src: &[u8], end: usize, c: Cursor) -> Visit
     requires { Table rows.now × (length src.now ≡ h.length) × (c.at < end) × (end ≤ length src.now) × (c.location < 2 ^ 63) }
-    ensures rest_value { (rest : Listing) → counted (entries_on h src.now end c rest) ≡ visit_goes h src.now end result rest }
-    ensures goes_ahead { GoesAhead c end result }
+    ensures goes { (rest : Listing) → counted (entries_on h src.now end c rest) ≡ visit_goes h src.now end result rest }
+    ensures ahead { GoesAhead c end result }
 {
     match entry_at(src, c.at, end, c.handle, c.location) {
         EntryRead::Refused(n) => Visit::Ends(broken(Fault::MapEntry((c.at + n - 1) as u64))),

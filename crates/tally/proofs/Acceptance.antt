@@ -5,7 +5,7 @@ use mathlib.Core.List.{List, [], ◌∷◌, ◌++◌}
 use mathlib.Core.Path.{◌≡◌, refl, sym, ap, ap₂, ◌∙◌}
 use lib.ListN.{length}
 use lib.Dec.{ltb, leb, eqb}
-use Rattle.streaming.specs.Choose.{if◌then◌else◌}
+use Rattle.streaming.specs.Choose.{when◌then◌else◌}
 use Rattle.streaming.specs.Record.{committed_in}
 use Rattle.streaming.specs.declared.Request.{Request}
 use Rattle.streaming.specs.declared.StreamError.{StreamError}
@@ -70,7 +70,7 @@ module _ (s : FlatWalker) (c : Call) where
   refused_agrees e (unfit k n same) = ap (λ (y : StreamError). is_accepted (taken_as s.failure (answer.Refused y))) same
 
   pub accepted_taken : is_accepted (taken_as s.failure (feed_of s c.offset c.piece).answer) ≡ takes (request_of s) c
-  unfolding feed_of if◌then◌else◌
+  unfolding feed_of when◌then◌else◌
   accepted_taken = by_asked (request_of s) refl
     where
       by_tests : (r : Request) → request_of s ≡ asked.Demand r → (a : Bool) → eqb c.offset r.offset ≡ a
@@ -91,8 +91,8 @@ module _ (s : FlatWalker) (c : Call) where
 
 -- ---- and of a run
 
-accepted-bytes : (k : Taken) (n : ℕ) → accepted_bytes k n ≡ if is_accepted k then n else 0
-unfolding if◌then◌else◌
+accepted-bytes : (k : Taken) (n : ℕ) → accepted_bytes k n ≡ when is_accepted k then n else 0
+unfolding when◌then◌else◌
 accepted-bytes not_taken n = refl
 accepted-bytes as_framing n = refl
 accepted-bytes as_payload n = refl
@@ -102,7 +102,7 @@ unfolding heard_in total
 bytes_taken_lem [] s = refl
 bytes_taken_lem (c ∷ cs) s =
     let n = length c.piece in
-    let one = accepted-bytes (taken_as s.failure (heard_of s c).answer) n ∙ ap (λ (b : Bool). if b then n else 0) (accepted_taken s c) in
+    let one = accepted-bytes (taken_as s.failure (heard_of s c).answer) n ∙ ap (λ (b : Bool). when b then n else 0) (accepted_taken s c) in
     rw (one, bytes_taken_lem cs (feed_of s c.offset c.piece).state)
 
 -- ---- a call that is not taken

@@ -3,7 +3,7 @@ use Prim.Native.Nat.{ℕ, ◌-◌, ◌^◌}
 use mathlib.Core.List.{List, [], ◌∷◌}
 use mathlib.Core.Path.{◌≡◌, refl}
 use lib.ListN.{length, set}
-use Rattle.streaming.specs.Choose.{if◌then◌else◌}
+use Rattle.streaming.specs.Choose.{when◌then◌else◌}
 use Rattle.streaming.specs.declared.FlatHeader.{FlatHeader}
 use Rattle.streaming.specs.declared.Answer.TheVariants as answer
 use Rattle.streaming.specs.declared.Step.TheVariants as step
@@ -88,7 +88,7 @@ pub record Repeated : Type 0 where
   pub zero : tally_of (object 0 (object 0 [])) ≡ counts 10 4 6 2 1 (last.Handle 0)
 
 pub repeating : Repeated
-unfolding tally_of total handles_in handles_of repeats last_of if◌then◌else◌
+unfolding tally_of total handles_in handles_of repeats last_of when◌then◌else◌
 repeating = record { twice = refl; zero = refl }
 
 -- ---- at the top

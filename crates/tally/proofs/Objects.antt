@@ -5,7 +5,7 @@ use mathlib.Core.Path.{◌≡◌, refl, ap}
 use native.Mathlib.Omega.{arith}
 use lib.ListN.{length}
 use lib.Dec.{eqb}
-use Rattle.streaming.specs.Choose.{if◌then◌else◌}
+use Rattle.streaming.specs.Choose.{when◌then◌else◌}
 use Rattle.streaming.specs.Record.{Record, section, object, objects_in, committed_in}
 use Rattle.streaming.specs.declared.FlatWalker.{FlatWalker}
 use Rattle.streaming.proofs.Choose.{in_both}
@@ -40,5 +40,5 @@ unfolding repeats
 repeats-few [] = omega arith
 repeats-few (x ∷ []) = omega arith
 repeats-few (x ∷ y ∷ more) =
-    let one : (if eqb x y then 1 else 0) ≤ 1 = in_both (λ (n : ℕ). n ≤ 1) (eqb x y) (λ e. omega arith) (λ e. omega arith) in
+    let one : (when eqb x y then 1 else 0) ≤ 1 = in_both (λ (n : ℕ). n ≤ 1) (eqb x y) (λ e. omega arith) (λ e. omega arith) in
     omega (arith, one, repeats-few (y ∷ more))

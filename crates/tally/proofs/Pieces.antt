@@ -6,7 +6,7 @@ use mathlib.Core.Path.{◌≡◌, refl, sym, ap, ◌∙◌, subst}
 use native.Mathlib.Omega.{arith}
 use native.Mathlib.Nat.{zero-add, suc-add, add-zero}
 use lib.ListN.{length}
-use Rattle.streaming.specs.Choose.{if◌then◌else◌}
+use Rattle.streaming.specs.Choose.{when◌then◌else◌}
 use Rattle.streaming.specs.Record.{committed_in}
 use Rattle.streaming.specs.declared.Step.TheVariants as step
 use Rattle.streaming.specs.declared.StreamError.{StreamError}
@@ -154,7 +154,7 @@ record Pays (held : Failure) (c : Call) (a : Account) (x : Answer) : Type 0 wher
 
 call_pays : (held : Failure) {src : List ℕ} {a : Account} → Tidy src a → Even a → (c : Call)
     → (takes (ask_of a) c ≡ true → c.piece ≡ part src c.offset (length c.piece)) → Pays held c a (answer_of a c)
-unfolding answer_of if◌then◌else◌ payload_within rules.payload_in_hand
+unfolding answer_of when◌then◌else◌ payload_within rules.payload_in_hand
 call_pays held {a = a} t v c honest = split (takes (ask_of a) c) refl
   where
     split : (b : Bool) → takes (ask_of a) c ≡ b → Pays held c a (answer_of a c)

@@ -1,6 +1,6 @@
 -- What was heard of a walk, call by call, and what there is to count in it: plain sums over the list.
 use Rattle.std.specs.Prelude.{ℕ, ◌+◌, Bool, true, false, List, [], ◌∷◌, ◌++◌, eqb}
-use Rattle.streaming.specs.Choose.{if◌then◌else◌}
+use Rattle.streaming.specs.Choose.{when◌then◌else◌}
 use Rattle.streaming.specs.Record.{Record, section, object, committed_in}
 use Rattle.streaming.specs.declared.Step.{Step}
 use Rattle.streaming.specs.declared.Step.TheVariants as step
@@ -124,4 +124,4 @@ handles_in (h ∷ hs) = handles_of (committed_in h.answer) ++ handles_in hs
 unfoldable pub repeats : List ℕ → ℕ
 repeats [] = 0
 repeats (x ∷ []) = 0
-repeats (x ∷ y ∷ more) = (if eqb x y then 1 else 0) + repeats (y ∷ more)
+repeats (x ∷ y ∷ more) = (when eqb x y then 1 else 0) + repeats (y ∷ more)

@@ -1,6 +1,6 @@
 -- What the speed command times: turns of a walk over a source in hand, and the sizes of the objects that they commit.
 use Rattle.std.specs.Prelude.{ℕ, zero, suc, ◌+◌, ◌-◌, min, List, [], ◌∷◌, get_or, ltb, eqb}
-use Rattle.streaming.specs.Choose.{if◌then◌else◌}
+use Rattle.streaming.specs.Choose.{when◌then◌else◌}
 use Rattle.streaming.specs.declared.Step.{Step}
 use Rattle.streaming.specs.declared.Step.TheVariants as step
 use Rattle.streaming.specs.declared.Answer.{Answer}
@@ -59,7 +59,7 @@ header_of length vars vars_size classes classes_size map map_size = record {
 
 -- the size of the last of so many records, if a list has them and there is one
 unfoldable pub last_size : List ObjectRecord → (count : ℕ) → ℕ
-last_size list count = if eqb count 0 then 0 else if ltb most_places count then 0 else (get_or list (count - 1) blank).size
+last_size list count = when eqb count 0 then 0 else when ltb most_places count then 0 else (get_or list (count - 1) blank).size
 
 -- of the list that the one-shot walk fills
 abbrev pub last_of : FlatHeader → (src : List ℕ) → ℕ

@@ -3,7 +3,7 @@ use mathlib.Core.Path.{◌≡◌}
 use native.Mathlib.Omega.{arith}
 use lib.ListN.{length}
 use borrow.Author.Tests.{eq-eqb, ne_eqb}
-use Rattle.streaming.specs.Choose.{if◌then◌else◌}
+use Rattle.streaming.specs.Choose.{when◌then◌else◌}
 use Rattle.chunk.specs.Chunk.{feed_chunk_crc}
 use borrow.Author.Rules.{rules}
 use Rattle.chunk.proofs.feed_chunk_crc.Goals as goal
@@ -14,11 +14,11 @@ copy_in-requires c =
     omega arith
 
 pub returns-then-done-s : goal.returns-then-done-s
-unfolding feed_chunk_crc if◌then◌else◌
+unfolding feed_chunk_crc when◌then◌else◌
 returns-then-done-s c =
     simp (eq-eqb _ _ c.if-done-s.true)
     (rw (c.number_in.ensures, c.copy_in.ensures) at c.settle_chunk_crc.ensures)
 
 pub returns : goal.returns
-unfolding feed_chunk_crc if◌then◌else◌
+unfolding feed_chunk_crc when◌then◌else◌
 returns c = rw (ne_eqb _ _ c.if-done-s.false) (rw c.copy_in.ensures at c.go_on.ensures)

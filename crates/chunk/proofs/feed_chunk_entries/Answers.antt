@@ -1,6 +1,5 @@
 -- `feed_chunk_entries` meets its contract.
 use Rattle.chunk.specs.Chunk.{feed_chunk_entries}
-use borrow.Author.Rules.{rules}
 use Rattle.chunk.proofs.feed_chunk_entries.Goals as goal
 
 pub returns : goal.returns

@@ -3,7 +3,7 @@ use mathlib.Core.Path.{◌≡◌}
 use native.Mathlib.Omega.{arith}
 use lib.ListN.{length}
 use borrow.Author.Tests.{eq-eqb, ne_eqb}
-use Rattle.streaming.specs.Choose.{if◌then◌else◌}
+use Rattle.streaming.specs.Choose.{when◌then◌else◌}
 use Rattle.chunk.specs.Chunk.{feed_chunk_size}
 use borrow.Author.Rules.{rules}
 use Rattle.chunk.proofs.feed_chunk_size.Goals as goal
@@ -14,11 +14,11 @@ copy_in-requires c =
     omega arith
 
 pub returns-then-done-eq2 : goal.returns-then-done-eq2
-unfolding feed_chunk_size if◌then◌else◌
+unfolding feed_chunk_size when◌then◌else◌
 returns-then-done-eq2 c =
     simp (eq-eqb _ _ c.if-done-eq2.true)
     (rw (c.number_in.ensures, c.copy_in.ensures) at c.settle_chunk_size.ensures)
 
 pub returns : goal.returns
-unfolding feed_chunk_size if◌then◌else◌
+unfolding feed_chunk_size when◌then◌else◌
 returns c = rw (ne_eqb _ _ c.if-done-eq2.false) (rw c.copy_in.ensures at c.go_on.ensures)

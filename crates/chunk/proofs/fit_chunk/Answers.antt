@@ -7,7 +7,6 @@ use Rattle.streaming.proofs.Choose.{telling}
 use Rattle.rules.specs.Header.{map_end}
 use Rattle.chunk.specs.Fit.{fit_chunk}
 use Rattle.chunk.proofs.Fitness.{fit_chunk_shows}
-use borrow.Author.Rules.{rules}
 use Rattle.chunk.proofs.fit_chunk.Goals as goal
 
 pub returns-then-end-m : goal.returns-then-end-m

@@ -1,6 +1,5 @@
 -- `no_object` meets its contract.
 use Rattle.chunk.specs.Fit.{no_object}
-use borrow.Author.Rules.{rules}
 use Rattle.chunk.proofs.no_object.Goals as goal
 
 pub returns : goal.returns

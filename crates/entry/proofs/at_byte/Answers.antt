@@ -1,7 +1,6 @@
 -- `at_byte` meets its contract: where the chunk lies in the map, the sums fit.
 use Prim.Native.Nat.{◌<◌, ◌^◌}
 use native.Mathlib.Omega.{arith}
-use borrow.Author.Rules.{rules}
 use Rattle.rules.specs.Header.{map_end}
 use Rattle.header.proofs.Bounds.{map_end_below}
 use Rattle.entry.specs.Fit.{at_byte}

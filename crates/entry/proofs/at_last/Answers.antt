@@ -1,7 +1,6 @@
 -- `at_last` meets its contract: the chunk lies in the map, so the sums fit.
 use Prim.Native.Nat.{◌<◌, ◌^◌}
 use native.Mathlib.Omega.{arith}
-use borrow.Author.Rules.{rules}
 use Rattle.rules.specs.Header.{map_end}
 use Rattle.header.proofs.Bounds.{map_end_below}
 use Rattle.entry.proofs.at_last.Goals as goal

@@ -1,5 +1,4 @@
 -- `entry_consistent` meets its contract.
-use borrow.Author.Rules.{rules}
 use Rattle.entry.specs.Fit.{entry_consistent}
 use Rattle.entry.proofs.entry_consistent.Goals as goal
 

@@ -1,5 +1,4 @@
 -- `fit_entry` meets its contract.
-use borrow.Author.Rules.{rules}
 use Rattle.streaming.proofs.Choose.{telling}
 use Rattle.entry.specs.Fit.{fit_entry}
 use Rattle.entry.proofs.Fitness.{fit_entry_shows}

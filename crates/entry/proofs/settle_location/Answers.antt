@@ -1,20 +1,18 @@
 -- `settle_location` meets its contract: a moved location is one that an object can be entered at.
-use Prim.Native.Nat.{ℕ, ◌/◌, ◌%◌, ◌^◌, ◌<◌}
-use mathlib.Core.Path.{◌≡◌, sym, ◌∙◌}
-use mathlib.Core.Option.{Option, none, some}
+use Prim.Native.Nat.{◌/◌, ◌%◌, ◌^◌, ◌<◌}
+use mathlib.Core.Path.{sym}
 use lib.Dec.{eqb}
 use native.Mathlib.Omega.{arith}
-use borrow.Author.Rules.{rules}
 use Rattle.rules.specs.Header.{map_end}
 use Rattle.header.proofs.Bounds.{map_end_below}
-use Rattle.entry.specs.Entry.{settle_location, moved_by, moved_to}
+use Rattle.entry.specs.Entry.{settle_location, moved_by}
 use Rattle.entry.proofs.Moves.{moved-near, told-some, told_none}
 use Rattle.entry.proofs.settle_location.Goals as goal
 
 pub overflow_add-map : goal.overflow_add-map
 overflow_add-map c =
     let e : map_end c.args.s.header < 2 ^ 33 =
-      let l = c.well_formed.0.1.1.0.1.1.1.1.0 in map_end_below c.args.s.header l.0 l.1.1 in
+    let l = c.well_formed.0.1.1.0.1.1.1.1.0 in map_end_below c.args.s.header l.0 l.1.1 in
     omega arith
 
 pub enter_object-requires : goal.enter_object-requires

@@ -1,6 +1,5 @@
 -- `consistent` meets its contract.
 use Rattle.flat.specs.Fit.{consistent_of}
-use borrow.Author.Rules.{rules}
 use Rattle.flat.proofs.consistent.Goals as goal
 
 pub returns-then-is_taken : goal.returns-then-is_taken

@@ -2,7 +2,6 @@
 use mathlib.Core.Path.{ap, ◌∙◌}
 use Rattle.account.specs.Statement.{ended_by}
 use Rattle.flat.specs.Flat.{end_of}
-use borrow.Author.Rules.{rules}
 use Rattle.flat.proofs.end_of_input.Goals as goal
 
 pub returns : goal.returns

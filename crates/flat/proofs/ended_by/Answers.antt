@@ -1,7 +1,6 @@
 -- `ended_by` meets its contract.
 use mathlib.Core.Path.{sym, ap}
 use Rattle.account.specs.Statement.{ended_by}
-use borrow.Author.Rules.{rules}
 use Rattle.flat.proofs.ended_by.Goals as goal
 
 pub returns-in-Demand : goal.returns-in-Demand

@@ -1,6 +1,5 @@
 -- `feed` meets its contract.
 use Rattle.flat.proofs.Calls.{fed_whole, fed_held, fed_untaken}
-use borrow.Author.Rules.{rules}
 use Rattle.flat.proofs.feed.Goals as goal
 
 pub returns-then-is_taken : goal.returns-then-is_taken

@@ -1,7 +1,6 @@
 -- `fit` meets its contract.
 use mathlib.Core.Path.{sym, ◌∙◌}
 use Rattle.flat.proofs.Calls.{taken_fit, untaken_fit}
-use borrow.Author.Rules.{rules}
 use Rattle.flat.proofs.fit.Goals as goal
 
 pub returns-then-is_taken : goal.returns-then-is_taken

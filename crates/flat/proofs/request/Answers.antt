@@ -1,6 +1,5 @@
 -- `request` meets its contract.
 use Rattle.flat.proofs.Calls.{requested_held, requested_taken, requested_untaken}
-use borrow.Author.Rules.{rules}
 use Rattle.flat.proofs.request.Goals as goal
 
 pub returns-then-is_taken : goal.returns-then-is_taken

@@ -1,6 +1,5 @@
 -- `start` meets its contract.
 use Rattle.flat.proofs.Taking.{started}
-use borrow.Author.Rules.{rules}
 use Rattle.flat.proofs.start.Goals as goal
 
 pub returns : goal.returns

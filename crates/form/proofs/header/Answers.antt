@@ -1,6 +1,5 @@
 -- `header` meets its contract.
 use native.Mathlib.Omega.{arith}
-use borrow.Author.Rules.{rules}
 use Rattle.form.proofs.Reading.{header_is}
 use Rattle.form.proofs.header.Goals as goal
 

@@ -1,6 +1,5 @@
 -- `is_form` meets its contract.
 use mathlib.Core.Path.{sym, ◌∙◌}
-use borrow.Author.Rules.{rules}
 use Rattle.form.proofs.Checked.{too_long, no_locators, no_magic, no_cuts, cuts-held, a_zero, to_the_end}
 use Rattle.form.proofs.is_form.Goals as goal
 

@@ -1,10 +1,7 @@
 -- `none_zero` meets its contract.
 use Prim.Native.Nat.{◌≤◌}
-use mathlib.Core.Path.{◌≡◌, refl, sym, ◌∙◌}
-use native.Mathlib.Omega.{arith}
-use borrow.Author.Rules.{rules}
+use mathlib.Core.Path.{◌≡◌}
 use Rattle.form.specs.Form.{none_zero}
-use Rattle.form.proofs.Zeros.{zero_cut, some_cut}
 use Rattle.form.proofs.none_zero.Given as goal
 
 abbrev pub invariant-loop-i : goal.invariant-loop-i

@@ -1,6 +1,5 @@
 -- `said` meets its contract.
 use native.Mathlib.Omega.{arith}
-use borrow.Author.Rules.{rules}
 use Rattle.form.proofs.Reading.{reckoned, form_is}
 use Rattle.form.proofs.said.Goals as goal
 

@@ -3,7 +3,6 @@ use Prim.Native.Nat.{◌+◌, ◌-◌}
 use mathlib.Core.Path.{refl, ◌∙◌}
 use lib.ListN.{replicate}
 use native.Mathlib.Omega.{arith}
-use borrow.Author.Rules.{rules}
 use Rattle.form.proofs.Filled.{filled_part}
 use Rattle.form.proofs.six.Goals as goal
 

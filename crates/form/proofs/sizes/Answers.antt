@@ -1,10 +1,7 @@
 -- `sizes` meets its contract.
-use Prim.Native.Nat.{◌-◌, ◌≤◌}
 use mathlib.Core.Path.{◌≡◌, refl, ◌∙◌}
 use lib.ListN.{replicate}
-use lib.Seq.{sets}
 use native.Mathlib.Omega.{arith}
-use borrow.Author.Rules.{rules}
 use Rattle.form.specs.Form.{first_cuts}
 use Rattle.form.proofs.Filled.{cuts_next}
 use Rattle.form.proofs.sizes.Goals as goal
@@ -14,11 +11,10 @@ unfolding first_cuts
 loop-i-init c = (omega arith, refl)
 
 pub loop-i-preserved : goal.loop-i-preserved
-loop-i-preserved c =
-    (
-      omega arith,
-      rw (c.loop-i.invariant.1, c.number_at.ensures.0) (cuts_next c.args.s.now c.args.at (replicate 64 0) c.loop-i.i),
-    )
+loop-i-preserved c = (
+  omega arith,
+  rw (c.loop-i.invariant.1, c.number_at.ensures.0) (cuts_next c.args.s.now c.args.at (replicate 64 0) c.loop-i.i),
+)
 
 pub returns : goal.returns
 returns c =

@@ -1,12 +1,9 @@
 -- `sizes` meets its contract.
 use Prim.Native.Nat.{◌-◌, ◌≤◌}
-use mathlib.Core.Path.{◌≡◌, refl, ◌∙◌}
+use mathlib.Core.Path.{◌≡◌}
 use lib.ListN.{replicate}
 use lib.Seq.{sets}
-use native.Mathlib.Omega.{arith}
-use borrow.Author.Rules.{rules}
 use Rattle.form.specs.Form.{first_cuts}
-use Rattle.form.proofs.Filled.{cuts_next}
 use Rattle.form.proofs.sizes.Given as goal
 
 abbrev pub invariant-loop-i : goal.invariant-loop-i

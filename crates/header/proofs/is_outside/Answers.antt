@@ -1,7 +1,6 @@
 -- `is_outside` meets its contract.
 use Rattle.streaming.proofs.Cases.{cases}
 use Rattle.rules.specs.Header.{is_outside}
-use borrow.Author.Rules.{rules}
 use Rattle.header.proofs.is_outside.Goals as goal
 
 pub returns : goal.returns

@@ -1,6 +1,5 @@
 -- `is_r2000` meets its contract.
 use Rattle.rules.specs.Header.{is_r2000}
-use borrow.Author.Rules.{rules}
 use Rattle.header.proofs.is_r2000.Goals as goal
 
 pub returns : goal.returns

@@ -1,13 +1,8 @@
 -- `locator` meets its contract: what is left to search decides.
-use Prim.Native.Nat.{ℕ, ◌≤◌, ◌-◌, ◌<◌}
-use mathlib.Core.Path.{◌≡◌, refl, sym, ◌∙◌}
-use borrow.Author.Rules.{rules}
-use native.Mathlib.Omega.{arith}
-use lib.ListN.{length, take, drop, get_or, length-take}
+use Prim.Native.Nat.{◌≤◌, ◌-◌}
+use mathlib.Core.Path.{◌≡◌}
+use lib.ListN.{take, drop}
 use Rattle.rules.specs.Header.{first_of, locator_of}
-use Rattle.streaming.proofs.Arrays.{length-of}
-use Rattle.header.proofs.Locating.{found, passed, none}
-use mathlib.Core.Logic.{inl, inr}
 use Rattle.header.proofs.locator.Given as goal
 
 abbrev pub invariant-loop-i : goal.invariant-loop-i

@@ -1,7 +1,6 @@
 -- `map_end` meets its contract.
 use native.Mathlib.Omega.{arith}
 use Rattle.rules.specs.Header.{map_end}
-use borrow.Author.Rules.{rules}
 use Rattle.header.proofs.map_end.Goals as goal
 
 pub returns : goal.returns

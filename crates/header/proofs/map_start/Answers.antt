@@ -1,6 +1,5 @@
 -- `map_start` meets its contract.
 use native.Mathlib.Omega.{arith}
-use borrow.Author.Rules.{rules}
 use Rattle.header.proofs.map_start.Goals as goal
 
 pub returns : goal.returns

@@ -1,13 +1,12 @@
 -- `put` meets its contract.
-use Prim.Native.Nat.{◌+◌, ◌*◌, ◌-◌, ◌≤◌, ◌<◌}
+use Prim.Native.Nat.{◌+◌, ◌≤◌, ◌<◌}
 use mathlib.Core.Path.{◌≡◌, refl, sym, ◌∙◌}
-use mathlib.Core.List.{◌++◌, append-nil}
-use mathlib.Core.Logic.{⊎_elim, inl, inr}
+use mathlib.Core.List.{append-nil}
+use mathlib.Core.Logic.{inl, inr}
 use lib.ListN.{length, take, set, length-set}
 use lib.Seq.{length-take-le}
 use native.Mathlib.Omega.{arith}
 use borrow.Author.Rules.{rules}
-use Rattle.lines.specs.Line.{spaced}
 use Rattle.lines.proofs.Laws.{line_next, line_end, all_taken}
 use Rattle.lines.proofs.put.Goals as goal
 use Rattle.lines.proofs.put.Goals.{else-loop-i-test, then-loop-i-test+then-count-i}

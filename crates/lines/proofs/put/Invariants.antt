@@ -1,14 +1,9 @@
 -- `put` meets its contract.
-use Prim.Native.Nat.{◌+◌, ◌*◌, ◌-◌, ◌≤◌, ◌<◌}
-use mathlib.Core.Path.{◌≡◌, refl, sym, ◌∙◌}
-use mathlib.Core.List.{◌++◌, append-nil}
-use mathlib.Core.Logic.{⊎_elim, inl, inr}
-use lib.ListN.{length, take, set, length-set}
-use lib.Seq.{length-take-le}
-use native.Mathlib.Omega.{arith}
-use borrow.Author.Rules.{rules}
+use Prim.Native.Nat.{◌+◌, ◌*◌, ◌-◌, ◌≤◌}
+use mathlib.Core.Path.{◌≡◌}
+use mathlib.Core.List.{◌++◌}
+use lib.ListN.{length, take}
 use Rattle.lines.specs.Line.{spaced}
-use Rattle.lines.proofs.Laws.{line_next, line_end, all_taken}
 use Rattle.lines.proofs.put.Given as goal
 
 abbrev pub invariant-loop-i : goal.invariant-loop-i

@@ -1,7 +1,6 @@
 -- `put_number` meets its contract.
 use lib.ListN.{length-set}
 use native.Mathlib.Omega.{arith}
-use borrow.Author.Rules.{rules}
 use Rattle.lines.proofs.Laws.{at_most_twenty, put_law}
 use Rattle.lines.proofs.put_number.Goals as goal
 

@@ -3,7 +3,7 @@ use mathlib.Core.Path.{◌≡◌}
 use native.Mathlib.Omega.{arith}
 use lib.ListN.{length}
 use borrow.Author.Tests.{eq-eqb, ne_eqb}
-use Rattle.streaming.specs.Choose.{if◌then◌else◌}
+use Rattle.streaming.specs.Choose.{when◌then◌else◌}
 use Rattle.object.specs.Object.{feed_object_crc}
 use Rattle.object.proofs.Demand.{span_small}
 use borrow.Author.Rules.{rules}
@@ -22,11 +22,11 @@ pub overflow_add-data_end-2 : goal.overflow_add-data_end-2
 overflow_add-data_end-2 c = omega (arith, span_small _ c.requires.0)
 
 pub returns-then-done-data_end : goal.returns-then-done-data_end
-unfolding feed_object_crc if◌then◌else◌
+unfolding feed_object_crc when◌then◌else◌
 returns-then-done-data_end c =
     rw (← c.copy_in.ensures, ← c.word_in.ensures)
     (simp (eq-eqb _ _ c.if-done-data_end.true) c.settle_object_crc.ensures)
 
 pub returns : goal.returns
-unfolding feed_object_crc if◌then◌else◌
+unfolding feed_object_crc when◌then◌else◌
 returns c = rw (← c.copy_in.ensures, ne_eqb _ _ c.if-done-data_end.false) c.go_on.ensures

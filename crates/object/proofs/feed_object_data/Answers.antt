@@ -2,7 +2,6 @@
 use native.Mathlib.Omega.{arith}
 use Rattle.object.specs.Object.{feed_object_data}
 use Rattle.object.proofs.Demand.{span_small}
-use borrow.Author.Rules.{rules}
 use Rattle.object.proofs.feed_object_data.Goals as goal
 
 pub overflow_add-done : goal.overflow_add-done

@@ -3,7 +3,7 @@ use mathlib.Core.Path.{◌≡◌}
 use native.Mathlib.Omega.{arith}
 use lib.ListN.{length}
 use borrow.Author.Tests.{eq-eqb, ne_eqb}
-use Rattle.streaming.specs.Choose.{if◌then◌else◌}
+use Rattle.streaming.specs.Choose.{when◌then◌else◌}
 use Rattle.object.specs.Object.{feed_word}
 use Rattle.object.proofs.Demand.{word_end}
 use borrow.Author.Rules.{rules}
@@ -23,12 +23,12 @@ settle_word-requires c =
     (c.requires.0, c.requires.0.few_words c.requires.1, word_end c.args.s c.requires.0 c.requires.1 _ c.requires.2)
 
 pub returns-then-done-eq0 : goal.returns-then-done-eq0
-unfolding feed_word if◌then◌else◌
+unfolding feed_word when◌then◌else◌
 returns-then-done-eq0 c =
     rw (← c.crc8-crc.ensures, ← c.copy_in.ensures, ← c.word_in.ensures)
     (simp (eq-eqb _ _ c.if-done-eq0.true) c.settle_word.ensures)
 
 pub returns : goal.returns
-unfolding feed_word if◌then◌else◌
+unfolding feed_word when◌then◌else◌
 returns c =
     rw (← c.crc8-crc.ensures, ← c.copy_in.ensures, ne_eqb _ _ c.if-done-eq0.false) c.go_on.ensures

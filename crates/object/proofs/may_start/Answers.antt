@@ -1,6 +1,5 @@
 -- `may_start` meets its contract.
 use Rattle.rules.specs.Object.{may_start}
-use borrow.Author.Rules.{rules}
 use Rattle.object.proofs.may_start.Goals as goal
 
 pub returns : goal.returns

@@ -2,7 +2,6 @@
 use native.Mathlib.Omega.{arith}
 use Rattle.object.specs.Object.{request_object}
 use Rattle.object.proofs.Demand.{ends_ahead}
-use borrow.Author.Rules.{rules}
 use Rattle.object.proofs.request_object.Goals as goal
 
 pub overflow_sub-result : goal.overflow_sub-result

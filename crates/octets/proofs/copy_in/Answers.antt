@@ -1,10 +1,7 @@
 -- `copy_in` meets its contract.
-use Prim.Native.Nat.{◌≤◌, ◌-◌, ◌+◌}
-use mathlib.Core.Path.{◌≡◌, refl, ◌∙◌}
-use lib.ListN.{length, take, length-set}
-use lib.Seq.{sets}
+use mathlib.Core.Path.{refl, ◌∙◌}
+use lib.ListN.{length-set}
 use native.Mathlib.Omega.{arith}
-use borrow.Author.Rules.{rules}
 use Rattle.octets.proofs.Sets.{sets_next, sets-whole}
 use Rattle.octets.proofs.copy_in.Goals as goal
 

@@ -1,11 +1,8 @@
 -- `copy_in` meets its contract.
-use Prim.Native.Nat.{◌≤◌, ◌-◌, ◌+◌}
-use mathlib.Core.Path.{◌≡◌, refl, ◌∙◌}
-use lib.ListN.{length, take, length-set}
+use Prim.Native.Nat.{◌≤◌, ◌-◌}
+use mathlib.Core.Path.{◌≡◌}
+use lib.ListN.{length, take}
 use lib.Seq.{sets}
-use native.Mathlib.Omega.{arith}
-use borrow.Author.Rules.{rules}
-use Rattle.octets.proofs.Sets.{sets_next, sets-whole}
 use Rattle.octets.proofs.copy_in.Given as goal
 
 abbrev pub invariant-loop-i : goal.invariant-loop-i

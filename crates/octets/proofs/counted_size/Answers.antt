@@ -1,7 +1,6 @@
 -- `counted_size` meets its contract.
 use mathlib.Core.Path.{refl}
 use native.Mathlib.Omega.{arith}
-use borrow.Author.Rules.{rules}
 use Rattle.octets.proofs.Counted.{cut_short, all_there}
 use Rattle.octets.proofs.counted_size.Goals as goal
 

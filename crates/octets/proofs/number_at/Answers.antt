@@ -1,10 +1,7 @@
 -- `number_at` meets its contract.
-use Prim.Native.Nat.{ℕ, suc, ◌≤◌, ◌<◌, ◌-◌, ◌^◌}
+use Prim.Native.Nat.{suc, ◌-◌}
 use mathlib.Core.Path.{◌≡◌, sym, ◌∙◌}
 use native.Mathlib.Omega.{arith}
-use borrow.Author.Rules.{rules}
-use lib.ListN.{take, drop}
-use Rattle.octets.specs.Octets.{little_endian}
 use Rattle.octets.proofs.Laws.{next_lt, seven_lt, little_none, little_next}
 use Rattle.octets.proofs.number_at.Goals as goal
 

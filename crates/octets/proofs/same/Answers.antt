@@ -1,10 +1,7 @@
 -- `same` meets its contract: what is left to compare decides.
-use Prim.Native.Nat.{◌≤◌, ◌-◌}
-use mathlib.Core.Path.{◌≡◌, refl, sym, ◌∙◌}
-use lib.ListN.{length, drop}
+use mathlib.Core.Path.{refl, sym, ◌∙◌}
 use native.Mathlib.Omega.{arith}
 use borrow.Author.Rules.{rules}
-use Rattle.octets.specs.Octets.{same}
 use Rattle.octets.proofs.Sameness.{unlike_length, same_past, same_not, same_end}
 use Rattle.octets.proofs.same.Goals as goal
 

@@ -1,5 +1,4 @@
 -- `fit_section` meets its contract: each test is the definition's, and `Fitness` has what they show.
-use borrow.Author.Rules.{rules}
 use Rattle.streaming.proofs.Choose.{telling}
 use Rattle.section.specs.Fit.{fit_section}
 use Rattle.section.proofs.Fitness.{fit_section_shows}

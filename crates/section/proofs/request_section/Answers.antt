@@ -1,6 +1,5 @@
 -- `request_section` meets its contract: the demand ends behind what is done.
 use native.Mathlib.Omega.{arith}
-use borrow.Author.Rules.{rules}
 use Rattle.section.specs.Section.{request_section}
 use Rattle.section.proofs.Demand.{end_behind}
 use Rattle.section.proofs.request_section.Goals as goal

@@ -2,20 +2,19 @@
 use Prim.Native.Nat.{◌<◌, ◌^◌}
 use native.Mathlib.Omega.{arith}
 use borrow.Author.Tests.{eq-eqb, ne_eqb}
-use Rattle.streaming.specs.Choose.{if◌then◌else◌}
+use Rattle.streaming.specs.Choose.{when◌then◌else◌}
 use Rattle.streaming.proofs.Cases.{cases}
 use Rattle.rules.specs.Header.{map_end}
 use Rattle.header.proofs.Bounds.{map_end_below}
 use Rattle.chunk.specs.Chunk.{settle_chunk}
-use borrow.Author.Rules.{rules}
 use Rattle.chunk.proofs.settle.settle_chunk.Goals as goal
 
 pub returns-then-m-end : goal.returns-then-m-end
-unfolding settle_chunk if◌then◌else◌
+unfolding settle_chunk when◌then◌else◌
 returns-then-m-end c = rw (← c.map_end-end.ensures.0) (search cases)
 
 pub returns-then-s-eq2 : goal.returns-then-s-eq2
-unfolding settle_chunk if◌then◌else◌
+unfolding settle_chunk when◌then◌else◌
 returns-then-s-eq2 c =
     rw (← c.map_end-end.ensures.0)
     (simp (eq-eqb _ _ c.if-s-eq2.true, ne_eqb _ _ c.if-m-end.false) c.fell.ensures)
@@ -23,9 +22,9 @@ returns-then-s-eq2 c =
 pub overflow_add-first : goal.overflow_add-first
 overflow_add-first c =
     let e : map_end c.args.s.header < 2 ^ 33 =
-      let l = c.well_formed.0.1.1.0.1.1.1.1.0 in map_end_below c.args.s.header l.0 l.1.1 in
+    let l = c.well_formed.0.1.1.0.1.1.1.1.0 in map_end_below c.args.s.header l.0 l.1.1 in
     omega (arith, c.requires.room)
 
 pub returns : goal.returns
-unfolding settle_chunk if◌then◌else◌
+unfolding settle_chunk when◌then◌else◌
 returns c = search cases

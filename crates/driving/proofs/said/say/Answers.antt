@@ -1,8 +1,8 @@
 -- `say` meets its contract.
 use mathlib.Core.Path.{refl}
-use Rattle.streaming.specs.Choose.{if◌then◌else◌}
+use Rattle.streaming.specs.Choose.{when◌then◌else◌}
 use Rattle.driving.proofs.said.say.Goals as goal
 
 pub returns : goal.returns
-unfolding if◌then◌else◌
+unfolding when◌then◌else◌
 returns c = refl

@@ -1,6 +1,5 @@
 -- `ask_chunk` meets its contract.
 use Rattle.flat.proofs.Calls.{asked_fit, asked_unfit}
-use borrow.Author.Rules.{rules}
 use Rattle.flat.proofs.asking.ask_chunk.Goals as goal
 
 pub request_chunk-requires : goal.request_chunk-requires

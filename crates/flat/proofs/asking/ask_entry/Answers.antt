@@ -1,6 +1,5 @@
 -- `ask_entry` meets its contract.
 use Rattle.flat.proofs.Calls.{asked_fit, asked_unfit}
-use borrow.Author.Rules.{rules}
 use Rattle.flat.proofs.asking.ask_entry.Goals as goal
 
 pub returns-then-fit_entry : goal.returns-then-fit_entry

@@ -1,6 +1,5 @@
 -- `ask_object` meets its contract.
 use Rattle.flat.proofs.Calls.{asked_fit, asked_unfit}
-use borrow.Author.Rules.{rules}
 use Rattle.flat.proofs.asking.ask_object.Goals as goal
 
 pub request_object-requires : goal.request_object-requires

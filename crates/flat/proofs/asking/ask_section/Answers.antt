@@ -1,6 +1,5 @@
 -- `ask_section` meets its contract.
 use Rattle.flat.proofs.Calls.{asked_fit, asked_unfit}
-use borrow.Author.Rules.{rules}
 use Rattle.flat.proofs.asking.ask_section.Goals as goal
 
 pub request_section-requires : goal.request_section-requires

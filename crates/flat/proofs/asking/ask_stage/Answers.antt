@@ -1,10 +1,9 @@
 -- `ask_stage` meets its contract.
-use mathlib.Core.Path.{◌≡◌, sym, ap, ◌∙◌}
+use mathlib.Core.Path.{sym, ap, ◌∙◌}
 use Rattle.streaming.specs.declared.Stage.{Stage}
-use Rattle.streaming.specs.Choose.{if◌then◌else◌}
+use Rattle.streaming.specs.Choose.{when◌then◌else◌}
 use Rattle.flat.specs.Fit.{fit_at}
 use Rattle.flat.specs.Flat.{asked_if, request_at}
-use borrow.Author.Rules.{rules}
 use Rattle.flat.proofs.asking.ask_stage.Goals as goal
 
 pub returns-in-Vars : goal.returns-in-Vars
@@ -28,6 +27,6 @@ returns-in-Object c =
     c.ask_object.ensures ∙ ap (λ (g : Stage). asked_if (fit_at g c.args.s) (request_at g c.args.s)) (sym c.in-Object.is)
 
 pub returns-in-Done : goal.returns-in-Done
-unfolding if◌then◌else◌
+unfolding when◌then◌else◌
 returns-in-Done c =
     ap (λ (g : Stage). asked_if (fit_at g c.args.s) (request_at g c.args.s)) (sym c.in-Done.is)

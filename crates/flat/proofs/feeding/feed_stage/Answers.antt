@@ -1,8 +1,7 @@
 -- `feed_stage` meets its contract.
-use mathlib.Core.Path.{◌≡◌, sym, ap, ◌∙◌}
+use mathlib.Core.Path.{sym, ap, ◌∙◌}
 use Rattle.streaming.specs.declared.Stage.{Stage}
 use Rattle.flat.specs.Offer.{fed_at}
-use borrow.Author.Rules.{rules}
 use Rattle.flat.proofs.feeding.feed_stage.Goals as goal
 
 pub returns-in-Vars : goal.returns-in-Vars

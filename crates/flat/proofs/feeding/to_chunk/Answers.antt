@@ -1,7 +1,6 @@
 -- `to_chunk` meets its contract.
 use Rattle.chunk.specs.Chunk.{request_chunk, feed_chunk}
 use Rattle.flat.proofs.Calls.{taken_fits, fed_taken, fed_refused, fed_unfit}
-use borrow.Author.Rules.{rules}
 use Rattle.flat.proofs.feeding.to_chunk.Goals as goal
 
 pub request_chunk-requires : goal.request_chunk-requires

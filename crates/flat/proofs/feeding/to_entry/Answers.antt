@@ -3,7 +3,6 @@ use lib.ListN.{get_or}
 use Rattle.entry.specs.Entry.{request_entry, feed_entry}
 use native.Mathlib.Omega.{arith}
 use Rattle.flat.proofs.Calls.{taken_fits, fed_taken, fed_refused, fed_unfit}
-use borrow.Author.Rules.{rules}
 use Rattle.flat.proofs.feeding.to_entry.Goals as goal
 
 pub bounds-piece-0 : goal.bounds-piece-0

@@ -1,7 +1,6 @@
 -- `to_object` meets its contract.
 use Rattle.object.specs.Object.{request_object, feed_object}
 use Rattle.flat.proofs.Calls.{taken_fits, fed_taken, fed_refused, fed_unfit}
-use borrow.Author.Rules.{rules}
 use Rattle.flat.proofs.feeding.to_object.Goals as goal
 
 pub request_object-requires : goal.request_object-requires

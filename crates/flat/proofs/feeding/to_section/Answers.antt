@@ -1,7 +1,6 @@
 -- `to_section` meets its contract.
 use Rattle.section.specs.Section.{request_section, feed_section}
 use Rattle.flat.proofs.Calls.{taken_fits, fed_taken, fed_refused, fed_unfit}
-use borrow.Author.Rules.{rules}
 use Rattle.flat.proofs.feeding.to_section.Goals as goal
 
 pub request_section-requires : goal.request_section-requires

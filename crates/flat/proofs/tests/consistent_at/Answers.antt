@@ -1,8 +1,7 @@
 -- `consistent_at` meets its contract.
-use mathlib.Core.Path.{◌≡◌, sym, ap, ◌∙◌}
+use mathlib.Core.Path.{sym, ap, ◌∙◌}
 use Rattle.streaming.specs.declared.Stage.{Stage}
 use Rattle.flat.specs.Fit.{consistent_at}
-use borrow.Author.Rules.{rules}
 use Rattle.flat.proofs.tests.consistent_at.Goals as goal
 
 pub returns-in-Vars : goal.returns-in-Vars

@@ -1,8 +1,7 @@
 -- `fit_at` meets its contract.
-use mathlib.Core.Path.{◌≡◌, sym, ap, ◌∙◌}
+use mathlib.Core.Path.{sym, ap, ◌∙◌}
 use Rattle.streaming.specs.declared.Stage.{Stage}
 use Rattle.flat.specs.Fit.{fit_at}
-use borrow.Author.Rules.{rules}
 use Rattle.flat.proofs.tests.fit_at.Goals as goal
 
 pub returns-in-Vars : goal.returns-in-Vars

@@ -1,7 +1,6 @@
 -- `is_taken` meets its contract.
 use Rattle.rules.specs.Header.{start_refusal}
 use Rattle.flat.proofs.Taking.{taken_is, untaken_is}
-use borrow.Author.Rules.{rules}
 use Rattle.flat.proofs.tests.is_taken.Goals as goal
 
 pub returns-in-Begun : goal.returns-in-Begun

@@ -3,7 +3,6 @@ use Prim.Native.Nat.{ℕ}
 use mathlib.Core.Path.{ap, ◌∙◌}
 use mathlib.Core.List.{[], ◌∷◌}
 use Rattle.lines.specs.Line.{line_of}
-use borrow.Author.Rules.{rules}
 use Rattle.lines.proofs.records.section.Goals as goal
 
 pub returns : goal.returns

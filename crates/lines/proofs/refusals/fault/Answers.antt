@@ -1,5 +1,4 @@
 -- `fault` meets its contract.
-use borrow.Author.Rules.{rules}
 use Rattle.lines.specs.Line.{fault_line}
 use Rattle.lines.proofs.Laws.{told}
 use Rattle.lines.proofs.refusals.fault.Goals as goal

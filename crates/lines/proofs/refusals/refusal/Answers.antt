@@ -1,5 +1,4 @@
 -- `refusal` meets its contract.
-use borrow.Author.Rules.{rules}
 use Rattle.lines.specs.Line.{refusal_line}
 use Rattle.lines.proofs.Laws.{told}
 use Rattle.lines.proofs.refusals.refusal.Goals as goal

@@ -8,7 +8,6 @@ use Rattle.rules.specs.Header.{map_end}
 use Rattle.header.proofs.Bounds.{map_end_below}
 use Rattle.object.specs.Fit.{behind_entry}
 use Rattle.object.proofs.Fitness.{entry_shows_near}
-use borrow.Author.Rules.{rules}
 use Rattle.object.proofs.fit.behind_entry.Goals as goal
 
 pub overflow_add-first : goal.overflow_add-first

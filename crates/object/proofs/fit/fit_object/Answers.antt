@@ -3,7 +3,6 @@ use mathlib.Core.Path.{sym, ◌∙◌}
 use Rattle.streaming.proofs.Choose.{telling}
 use Rattle.object.specs.Fit.{fit_object}
 use Rattle.object.proofs.Fitness.{consistent_shows_words, fit_object_shows}
-use borrow.Author.Rules.{rules}
 use Rattle.object.proofs.fit.fit_object.Goals as goal
 
 pub size_in_words-requires : goal.size_in_words-requires

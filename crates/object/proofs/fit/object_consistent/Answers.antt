@@ -1,6 +1,5 @@
 -- `object_consistent` meets its contract.
 use Rattle.object.specs.Fit.{object_consistent}
-use borrow.Author.Rules.{rules}
 use Rattle.object.proofs.fit.object_consistent.Goals as goal
 
 pub behind_entry-requires : goal.behind_entry-requires

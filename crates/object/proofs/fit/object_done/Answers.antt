@@ -1,13 +1,12 @@
 -- `object_done` meets its contract.
 use native.Mathlib.Omega.{arith}
 use borrow.Author.Tests.{eq-eqb, ne_eqb}
-use Rattle.streaming.specs.Choose.{if◌then◌else◌}
+use Rattle.streaming.specs.Choose.{when◌then◌else◌}
 use Rattle.object.specs.Fit.{object_done}
-use borrow.Author.Rules.{rules}
 use Rattle.object.proofs.fit.object_done.Goals as goal
 
 pub returns-then-s-eq0 : goal.returns-then-s-eq0
-unfolding object_done if◌then◌else◌
+unfolding object_done when◌then◌else◌
 returns-then-s-eq0 c = rw (eq-eqb _ 0 c.if-s-eq0.true)
 
 pub overflow_add-s : goal.overflow_add-s
@@ -31,5 +30,5 @@ overflow_add-result-3 c =
     omega (arith, c.struct_known-5-1.given, c.struct_known-4-1.given, c.requires)
 
 pub returns : goal.returns
-unfolding object_done if◌then◌else◌
+unfolding object_done when◌then◌else◌
 returns c = rw (ne_eqb _ 0 c.if-s-eq0.false, c.may_end.ensures)

@@ -6,7 +6,6 @@ use native.Mathlib.Omega.{arith}
 use lib.Dec.{ltb}
 use lib.Pow.{shl_exact}
 use Rattle.object.specs.Fit.{size_in_words}
-use borrow.Author.Rules.{rules}
 use Rattle.object.proofs.fit.size_in_words.Goals as goal
 
 pub returns : goal.returns

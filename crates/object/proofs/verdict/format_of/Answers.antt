@@ -1,6 +1,5 @@
 -- `format_of` meets its contract.
 use mathlib.Core.Path.{sym, ◌∙◌}
-use borrow.Author.Rules.{rules}
 use Rattle.object.proofs.verdict.format_of.Goals as goal
 
 pub returns-then-is_r2000 : goal.returns-then-is_r2000

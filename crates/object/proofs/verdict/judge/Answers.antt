@@ -1,5 +1,4 @@
 -- `judge` meets its contract.
-use borrow.Author.Rules.{rules}
 use Rattle.object.specs.Object.{kept_prologue}
 use Rattle.object.proofs.verdict.judge.Goals as goal
 

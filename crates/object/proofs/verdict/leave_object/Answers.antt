@@ -2,11 +2,10 @@
 use Prim.Native.Nat.{◌<◌, ◌^◌}
 use native.Mathlib.Omega.{arith}
 use borrow.Author.Tests.{eq-eqb, ne_eqb}
-use Rattle.streaming.specs.Choose.{if◌then◌else◌}
+use Rattle.streaming.specs.Choose.{when◌then◌else◌}
 use Rattle.rules.specs.Header.{map_end}
 use Rattle.header.proofs.Bounds.{map_end_below}
 use Rattle.object.specs.Object.{leave_object}
-use borrow.Author.Rules.{rules}
 use Rattle.object.proofs.verdict.leave_object.Goals as goal
 
 pub overflow_add-m : goal.overflow_add-m
@@ -25,9 +24,9 @@ enter_chunk-requires c =
     omega (arith, near, c.requires.0.inside, c.requires.1)
 
 pub returns-then-m : goal.returns-then-m
-unfolding leave_object if◌then◌else◌
+unfolding leave_object when◌then◌else◌
 returns-then-m c = rw (eq-eqb _ _ c.if-m.true) c.enter_chunk.ensures
 
 pub returns : goal.returns
-unfolding leave_object if◌then◌else◌
+unfolding leave_object when◌then◌else◌
 returns c = rw (ne_eqb _ _ c.if-m.false) c.in_unit.ensures

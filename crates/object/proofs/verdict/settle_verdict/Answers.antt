@@ -2,7 +2,6 @@
 use native.Mathlib.Omega.{arith}
 use Rattle.object.specs.Object.{settle_verdict}
 use Rattle.object.proofs.Demand.{span_small}
-use borrow.Author.Rules.{rules}
 use Rattle.object.proofs.verdict.settle_verdict.Goals as goal
 
 pub overflow_add-done : goal.overflow_add-done

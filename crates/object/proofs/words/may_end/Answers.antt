@@ -1,6 +1,5 @@
 -- `may_end` meets its contract.
 use Rattle.rules.specs.Object.{may_end}
-use borrow.Author.Rules.{rules}
 use Rattle.object.proofs.words.may_end.Goals as goal
 
 pub returns : goal.returns

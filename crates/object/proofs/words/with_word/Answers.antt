@@ -4,7 +4,6 @@ use mathlib.Core.Path.{ap}
 use native.Mathlib.Omega.{arith}
 use lib.Bits.{bit_or, and_mask}
 use lib.Pow.{shl_exact}
-use borrow.Author.Rules.{rules}
 use Rattle.object.proofs.words.with_word.Goals as goal
 
 pub overflow_cast-result : goal.overflow_cast-result

@@ -1,5 +1,4 @@
 -- `section` meets its contract.
-use borrow.Author.Rules.{rules}
 use Rattle.section.proofs.hand.section.Goals as goal
 
 pub returns : goal.returns

@@ -4,7 +4,7 @@ use native.Mathlib.Omega.{arith}
 use lib.ListN.{length}
 use borrow.Author.Tests.{eq-eqb, ne_eqb}
 use borrow.Author.Rules.{rules}
-use Rattle.streaming.specs.Choose.{if◌then◌else◌}
+use Rattle.streaming.specs.Choose.{when◌then◌else◌}
 use Rattle.section.specs.Section.{feed_section_crc}
 use Rattle.section.proofs.Bounds.{four_in_field, late_lt}
 use Rattle.section.proofs.Fields.{two_bytes}
@@ -26,12 +26,12 @@ pub settle_section_crc-requires : goal.settle_section_crc-requires
 settle_section_crc-requires c = (search rules, omega arith)
 
 pub returns-then-done-s : goal.returns-then-done-s
-unfolding feed_section_crc if◌then◌else◌
+unfolding feed_section_crc when◌then◌else◌
 returns-then-done-s c =
     let h : length c.copy_in.new.dst ≡ 4 = search rules in
     rw (← c.copy_in.ensures, eq-eqb _ _ c.if-done-s.true)
     (rw (c.le16.ensures, two_bytes) at c.settle_section_crc.ensures)
 
 pub returns : goal.returns
-unfolding feed_section_crc if◌then◌else◌
+unfolding feed_section_crc when◌then◌else◌
 returns c = rw (← c.copy_in.ensures, ne_eqb _ _ c.if-done-s.false) c.go_on.ensures

@@ -1,6 +1,5 @@
 -- `feed_section_data` meets its contract.
 use native.Mathlib.Omega.{arith}
-use borrow.Author.Rules.{rules}
 use Rattle.section.specs.Section.{feed_section_data}
 use Rattle.section.proofs.Bounds.{late_lt}
 use Rattle.section.proofs.pieces.feed_section_data.Goals as goal

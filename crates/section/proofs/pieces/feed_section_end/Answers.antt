@@ -1,14 +1,13 @@
 -- `feed_section_end` meets its contract.
 use native.Mathlib.Omega.{arith}
-use borrow.Author.Tests.{not-true, not-false, eq-eqb, ne_eqb}
-use borrow.Author.Rules.{rules}
-use Rattle.streaming.specs.Choose.{if◌then◌else◌}
+use borrow.Author.Tests.{eq-eqb, ne_eqb}
+use Rattle.streaming.specs.Choose.{when◌then◌else◌}
 use Rattle.section.specs.Section.{feed_section_end}
 use Rattle.section.proofs.Bounds.{late_lt}
 use Rattle.section.proofs.pieces.feed_section_end.Goals as goal
 
 pub returns-then-not-spells : goal.returns-then-not-spells
-unfolding feed_section_end if◌then◌else◌
+unfolding feed_section_end when◌then◌else◌
 returns-then-not-spells c =
     rw (← c.part_number-number.ensures.0, ← c.spells.ensures, c.if-not-spells.true)
     c.fell.ensures
@@ -18,13 +17,13 @@ overflow_add-done c =
     omega (arith, late_lt _ _ c.well_formed.0 c.requires.fit_section (omega arith))
 
 pub returns-then-done-s : goal.returns-then-done-s
-unfolding feed_section_end if◌then◌else◌
+unfolding feed_section_end when◌then◌else◌
 returns-then-done-s c =
     rw (← c.part_number-number.ensures.0, ← c.spells.ensures, c.if-not-spells.false)
     (rw (eq-eqb _ _ c.if-done-s.true) c.settle_section.ensures)
 
 pub returns : goal.returns
-unfolding feed_section_end if◌then◌else◌
+unfolding feed_section_end when◌then◌else◌
 returns c =
     rw (← c.part_number-number.ensures.0, ← c.spells.ensures, c.if-not-spells.false)
     (rw (ne_eqb _ _ c.if-done-s.false) c.go_on.ensures)

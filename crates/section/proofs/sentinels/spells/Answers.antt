@@ -1,6 +1,5 @@
 -- `spells` meets its contract.
 use native.Mathlib.Nat.{add-sub_cancel_left}
-use borrow.Author.Rules.{rules}
 use Rattle.section.proofs.sentinels.spells.Goals as goal
 
 pub returns : goal.returns

@@ -1,5 +1,4 @@
 -- `enter_next` meets its contract, stage by stage.
-use borrow.Author.Rules.{rules}
 use Rattle.section.proofs.settle.enter_next.Goals as goal
 
 pub returns-in-Vars : goal.returns-in-Vars

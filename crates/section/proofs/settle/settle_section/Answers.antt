@@ -1,5 +1,4 @@
 -- `settle_section` meets its contract.
-use borrow.Author.Rules.{rules}
 use Rattle.rules.specs.Section.{section_record}
 use Rattle.section.specs.Section.{settle_section}
 use Rattle.section.proofs.settle.settle_section.Goals as goal

@@ -1,0 +1,63 @@
+-- `record_at` meets its contract.
+-- ---- the size, by its words
+use Prim.Native.Nat.{ℕ, ◌+◌, ◌*◌, ◌%◌, ◌≤◌, ◌<◌}
+use mathlib.Core.Bool.{Bool}
+use mathlib.Core.List.{List}
+use mathlib.Core.Path.{◌≡◌, sym, ap, ◌∙◌}
+use lib.ListN.{take}
+use borrow.Author.Tests.{lt-ltb, le-ltb}
+use Rattle.streaming.specs.Choose.{when◌then◌else◌}
+use Rattle.streaming.specs.declared.ObjectRecord.{ObjectRecord}
+use Rattle.octets.specs.Octets.{little_endian}
+use Rattle.account.specs.Statement.{part}
+use Rattle.rules.specs.Prologue.{prologue_of}
+use Rattle.rules.specs.Object.{sized, unending, size_of_words, size_at}
+use Rattle.records.specs.Answer.{head_of}
+use Rattle.records.specs.declared.Head.{Head}
+use Rattle.oneshot.specs.Cursor.{blank, record_of_head, sized_at, record_at}
+use Rattle.oneshot.proofs.Reading.{words_at}
+use Rattle.oneshot.proofs.objects.record_at.Goals as goal
+
+module _ (r2000 : Bool) (src : List ℕ) (handle location : ℕ) where
+  record_is : (field_bytes size : ℕ) (head : Head) (r : ObjectRecord) → size_at src location ≡ sized field_bytes size
+      → head ≡ head_of (prologue_of r2000 (take 16 (part src (location + field_bytes) size))) → r ≡ record_of_head handle location size head
+      → r ≡ record_at r2000 src handle location
+  unfolding record_at
+  record_is field_bytes size head r e h g =
+      g ∙ ap (record_of_head handle location size) h ∙ sym (ap (sized_at r2000 src handle location) e)
+
+  blank-is : size_at src location ≡ unending → (r : ObjectRecord) → r ≡ blank → r ≡ record_at r2000 src handle location
+  unfolding record_at
+  blank-is e r g = g ∙ sym (ap (sized_at r2000 src handle location) e)
+
+module _ (src : List ℕ) (location first : ℕ) (f : first ≡ little_endian (part src location 2)) where
+  one_word : first < 0x8000 → size_at src location ≡ sized 2 first
+  unfolding size_of_words when◌then◌else◌
+  one_word h = words_at src location ∙ rw (← f, lt-ltb first 0x8000 h)
+
+  module _ (second : ℕ) (s : second ≡ little_endian (part src (location + 2) 2)) (h : 0x8000 ≤ first) where
+    two_words_lem : second < 0x8000 → size_at src location ≡ sized 4 (first % 0x8000 + 0x8000 * second)
+    unfolding size_of_words when◌then◌else◌
+    two_words_lem k = words_at src location ∙ rw (← f, ← s, le-ltb first 0x8000 h, lt-ltb second 0x8000 k)
+
+    no_size : 0x8000 ≤ second → size_at src location ≡ unending
+    unfolding size_of_words when◌then◌else◌
+    no_size k = words_at src location ∙ rw (← f, ← s, le-ltb first 0x8000 h, le-ltb second 0x8000 k)
+
+pub returns-then-first-lt32768 : goal.returns-then-first-lt32768
+returns-then-first-lt32768 c =
+    record_is c.args.r2000 c.args.src.now c.args.handle c.args.location 2 c.word_at-first.result c.head_at.result c.record_of_head.result
+    (one_word c.args.src.now c.args.location c.word_at-first.result c.word_at-first.ensures.0 c.if-first-lt32768.true) c.head_at.ensures c.record_of_head.ensures
+
+pub returns-then-second-lt32768 : goal.returns-then-second-lt32768
+returns-then-second-lt32768 c =
+    record_is c.args.r2000 c.args.src.now c.args.handle c.args.location 4 _ c.head_at-then-second-lt32768.result c.record_of_head-then-second-lt32768.result
+    (two_words_lem c.args.src.now c.args.location c.word_at-first.result c.word_at-first.ensures.0 c.word_at-second.result c.word_at-second.ensures.0
+    c.if-first-lt32768.false c.if-second-lt32768.true)
+    c.head_at-then-second-lt32768.ensures c.record_of_head-then-second-lt32768.ensures
+
+pub returns : goal.returns
+returns c =
+    blank-is c.args.r2000 c.args.src.now c.args.handle c.args.location
+    (no_size c.args.src.now c.args.location c.word_at-first.result c.word_at-first.ensures.0 c.word_at-second.result c.word_at-second.ensures.0 c.if-first-lt32768.false c.if-second-lt32768.false)
+    c.blank.result c.blank.ensures

@@ -1,0 +1,37 @@
+-- `sized_at` meets its contract.
+use Prim.Native.Nat.{◌+◌}
+use mathlib.Core.Bool.{true}
+use mathlib.Core.Path.{◌≡◌, sym, ap, ◌∙◌}
+use native.Mathlib.Omega.{arith}
+use Rattle.rules.specs.Object.{may_end}
+use Rattle.rules.specs.PlainList.{stop, verdict_then}
+use Rattle.rules.proofs.Object.{end_inside}
+use Rattle.object.specs.Object.{verdict_of}
+use Rattle.survey.proofs.AtLocation.{no_size, no_end, judged}
+use Rattle.survey.proofs.objects.sized_at.Goals as goal
+
+pub returns-then-size-eq0 : goal.returns-then-size-eq0
+returns-then-size-eq0 c = λ rest. no_size c.args.h c.args.src.now c.args.handle c.args.location c.args.field c.args.size rest c.if-size-eq0.true ∙ ap stop (sym c.broken.ensures)
+
+pub returns-then-not-may_end : goal.returns-then-not-may_end
+returns-then-not-may_end c =
+    λ rest. no_end c.args.h c.args.src.now c.args.handle c.args.location c.args.field c.args.size rest (omega arith) (sym c.may_end.ensures ∙ c.if-not-may_end.true) ∙ ap stop (sym c.broken-then-not-may_end.ensures)
+
+pub judge_at-requires : goal.judge_at-requires
+judge_at-requires c =
+    let ends : may_end c.args.h c.args.location (c.args.location + c.args.field + c.args.size + 2) ≡ true = sym c.may_end.ensures ∙ c.if-not-may_end.false in
+    (c.requires.0, omega (arith, c.requires.1, end_inside c.args.h c.args.location _ ends))
+
+pub returns-in-Holds : goal.returns-in-Holds
+unfolding verdict_then
+returns-in-Holds c =
+    let ends : may_end c.args.h c.args.location (c.args.location + c.args.field + c.args.size + 2) ≡ true = sym c.may_end.ensures ∙ c.if-not-may_end.false in
+    λ rest.
+    judged c.args.h c.args.src.now c.args.handle c.args.location c.args.field c.args.size rest (omega arith) ends _ (ap verdict_of (sym c.in-Holds.is) ∙ c.judge_at.ensures)
+
+pub returns-in-Fails : goal.returns-in-Fails
+unfolding verdict_then
+returns-in-Fails c =
+    let ends : may_end c.args.h c.args.location (c.args.location + c.args.field + c.args.size + 2) ≡ true = sym c.may_end.ensures ∙ c.if-not-may_end.false in
+    λ rest. judged c.args.h c.args.src.now c.args.handle c.args.location c.args.field c.args.size rest (omega arith) ends
+    _ (ap verdict_of (sym c.in-Fails.is) ∙ c.judge_at.ensures) ∙ ap stop (sym c.broken-in-Fails.ensures)
