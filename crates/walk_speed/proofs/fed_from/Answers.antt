@@ -7,7 +7,6 @@ use lib.ListN.{length, take, drop}
 use Rattle.account.specs.Statement.{part}
 use Rattle.flat.specs.Flat.{feed_of}
 use Rattle.walk_speed.proofs.Within.{part-within}
-use borrow.Author.Rules.{rules}
 use Rattle.walk_speed.proofs.fed_from.Goals as goal
 
 pub returns : goal.returns

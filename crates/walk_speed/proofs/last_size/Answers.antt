@@ -1,5 +1,4 @@
 -- `last_size` meets its contract.
-use borrow.Author.Rules.{rules}
 use Rattle.streaming.specs.Choose.{when◌then◌else◌}
 use Rattle.streaming.proofs.Cases.{cases}
 use Rattle.walk_speed.specs.Sums.{last_size}

@@ -1,8 +1,7 @@
 -- `sum` meets its contract.
-use Prim.Native.Nat.{ℕ, suc, ◌+◌, ◌*◌, ◌-◌, ◌^◌, ◌≤◌}
+use Prim.Native.Nat.{ℕ, suc, ◌+◌, ◌-◌}
 use mathlib.Core.Path.{◌≡◌, refl, sym, ap, ◌∙◌}
 use native.Mathlib.Omega.{arith}
-use borrow.Author.Rules.{rules}
 use mathlib.Core.List.{List}
 use native.Mathlib.Nat.{zero-add, add-zero, add_assoc}
 use Rattle.streaming.specs.declared.FlatWalker.{FlatWalker}

@@ -1,13 +1,7 @@
 -- `sum` meets its contract.
-use Prim.Native.Nat.{ℕ, suc, ◌+◌, ◌*◌, ◌-◌, ◌^◌, ◌≤◌}
-use mathlib.Core.Path.{◌≡◌, refl, sym, ap, ◌∙◌}
-use native.Mathlib.Omega.{arith}
-use borrow.Author.Rules.{rules}
-use mathlib.Core.List.{List}
-use native.Mathlib.Nat.{zero-add, add-zero, add_assoc}
-use Rattle.streaming.specs.declared.FlatWalker.{FlatWalker}
-use Rattle.streaming.specs.declared.Fed.{Fed}
-use Rattle.walk_speed.specs.Sums.{size_of, turn_of, sum_of}
+use Prim.Native.Nat.{◌+◌, ◌*◌, ◌^◌, ◌≤◌}
+use mathlib.Core.Path.{◌≡◌}
+use Rattle.walk_speed.specs.Sums.{sum_of}
 use Rattle.walk_speed.proofs.sum.Given as goal
 
 abbrev pub invariant-loop-left : goal.invariant-loop-left

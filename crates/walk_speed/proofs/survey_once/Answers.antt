@@ -1,6 +1,5 @@
 -- `survey_once` meets its contract.
 use mathlib.Core.Path.{ap, ◌∙◌}
-use borrow.Author.Rules.{rules}
 use Rattle.streaming.specs.declared.FlatHeader.{FlatHeader}
 use Rattle.survey.specs.Survey.{survey_of}
 use Rattle.survey.specs.declared.Walked.{Walked}

@@ -2,7 +2,6 @@
 use mathlib.Core.Path.{sym, ap, ◌∙◌}
 use Rattle.streaming.specs.declared.Asked.{Asked}
 use Rattle.walk_speed.specs.Sums.{fed_by, turn_of}
-use borrow.Author.Rules.{rules}
 use Rattle.walk_speed.proofs.turn.Goals as goal
 
 pub returns-in-Demand : goal.returns-in-Demand

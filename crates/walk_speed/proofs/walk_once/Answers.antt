@@ -1,6 +1,5 @@
 -- `walk_once` meets its contract.
 use mathlib.Core.Path.{ap, ◌∙◌}
-use borrow.Author.Rules.{rules}
 use Rattle.streaming.specs.declared.FlatHeader.{FlatHeader}
 use Rattle.streaming.specs.declared.Started.{Started}
 use Rattle.flat.specs.Flat.{start_of}
