@@ -1,5 +1,6 @@
 pub mod Main
 pub mod Over
+pub mod Rest
 pub mod Reading
 pub mod Entries
 pub mod Near
