@@ -174,6 +174,7 @@ fn settle_group(s: FlatWalker, byte: u8, value: u64) -> Fed
 }
 
 // A tenth byte is refused before anything else.
+#[tactic(auto, using(crate::proofs::Tenth::tenth_refused))]
 pub fn feed_entry(s: FlatWalker, byte: u8) -> Fed
     requires { FitEntry s }
     ensures { result ≡ feed_entry s byte }
