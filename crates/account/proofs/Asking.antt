@@ -6,7 +6,7 @@ use native.Mathlib.Omega.{arith}
 use lib.ListN.{length}
 use Rattle.streaming.specs.declared.Request.{Request}
 use Rattle.streaming.specs.declared.Fault.{Fault}
-use Rattle.streaming.specs.declared.Answer.{Answer}
+use Rattle.streaming.specs.Answers.{Answer}
 use Rattle.streaming.proofs.Choose.{in_both}
 use Rattle.account.specs.Account.{Account, ask_of, demand}
 use Rattle.account.specs.Asking.{Turn, ask_byte, span, one_by_one, spell}

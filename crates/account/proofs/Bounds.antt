@@ -1,4 +1,5 @@
 -- A run takes no more than its account holds: so many calls, and so many bytes.
+use Rattle.std.specs.Prelude.{Ok, Err}
 use Prim.Native.Nat.{ℕ, zero, suc, ◌+◌, ◌≤◌, ◌<◌}
 use mathlib.Core.Bool.{Bool, true, false}
 use mathlib.Core.List.{List, [], ◌∷◌}
@@ -7,8 +8,7 @@ use native.Mathlib.Omega.{arith}
 use lib.ListN.{length}
 use Rattle.streaming.specs.Choose.{when◌then◌else◌}
 use Rattle.streaming.specs.declared.Fault.{Fault}
-use Rattle.streaming.specs.declared.Answer.{Answer}
-use Rattle.streaming.specs.declared.Answer.TheVariants as answer
+use Rattle.streaming.specs.Answers.{Answer}
 use Rattle.account.specs.Account.{Account, over, demand, broken, ask_of, passed, bytes_taken, brought_by, bytes_at_most}
 use Rattle.account.specs.Statement.{Call, takes, after, part, Walker, HonestCall, Honest}
 use Rattle.account.specs.Runs.{run, Past, Bounded}
@@ -28,8 +28,8 @@ record Pieced (n : ℕ) (a : Account) : Type 0 where
   sound : ((f : Fault) → passed n a ≡ over (broken f) → ⊥) → n + bytes_taken (passed n a) ≤ bytes_taken a
 
 brought_some : (left : ℕ) (s : Answer) → 1 ≤ left → 1 ≤ brought_by left s
-brought_some left (answer.Step s) h = omega arith
-brought_some left (answer.Refused e) h = omega arith
+brought_some left (Ok s) h = omega arith
+brought_some left (Err e) h = omega arith
 
 pieced : {src : List ℕ} (n : ℕ) {a : Account} → Tidy src a → (at left : ℕ) → ask_of a ≡ demand at left → suc n ≤ left → at + suc n ≤ length src
     → Pieced (suc n) a

@@ -1,23 +1,23 @@
 -- The pieces of a demand bring no more than its bytes, the piece at fault among them, and what is brought behind its turn.
+use Rattle.std.specs.Prelude.{Ok, Err}
 use Prim.Native.Nat.{ℕ, zero, suc, ◌+◌, ◌≤◌}
 use mathlib.Core.List.{List, [], ◌∷◌}
 use native.Mathlib.Omega.{arith}
 use lib.ListN.{length}
 use Rattle.streaming.specs.declared.Fault.{Fault}
-use Rattle.streaming.specs.declared.Answer.{Answer}
-use Rattle.streaming.specs.declared.Answer.TheVariants as answer
+use Rattle.streaming.specs.Answers.{Answer}
 use Rattle.streaming.proofs.Choose.{in_both}
 use Rattle.account.specs.Account.{Account, framing, brought_by, bytes_at_most}
 use Rattle.account.specs.Asking.{Turn, says_before, ask_byte, span, one_by_one, spell}
 use Rattle.account.specs.Tidy.{Quiet}
 
 quiet_one : (left : ℕ) (s : Answer) → Quiet s → brought_by left s ≤ 1
-quiet_one left (answer.Step s) q = omega arith
-quiet_one left (answer.Refused e) q = absurd q
+quiet_one left (Ok s) q = omega arith
+quiet_one left (Err e) q = absurd q
 
 last_one : (s : Answer) → brought_by 1 s ≤ 1
-last_one (answer.Step s) = omega arith
-last_one (answer.Refused e) = omega arith
+last_one (Ok s) = omega arith
+last_one (Err e) = omega arith
 
 -- a byte of a demand brings itself: it is quiet, or the last
 before_one : (n : ℕ) (plain : Answer) (t : Turn) → Quiet plain → brought_by (suc n) (says_before n plain t) ≤ 1

@@ -1,4 +1,5 @@
 -- Laws of one call on an account: when it is taken, what it leaves, and what it commits; and of the end of input.
+use Rattle.std.specs.Prelude.{Ok, Err, Some, None}
 use Prim.Native.Nat.{ℕ, ◌+◌, ◌≤◌, ◌<◌}
 use mathlib.Core.Bool.{Bool, true, false, false≢true}
 use mathlib.Core.List.{List, [], ◌∷◌}
@@ -9,10 +10,7 @@ use lib.Dec.{ltb, eqb}
 use borrow.Author.Tests.{ltb-true, leb-true, eqb-true}
 use Rattle.streaming.specs.Choose.{when◌then◌else◌}
 use Rattle.streaming.specs.Record.{committed_in}
-use Rattle.streaming.specs.declared.Asked.{Asked}
-use Rattle.streaming.specs.declared.Asked.TheVariants as asked
-use Rattle.streaming.specs.declared.Ended.TheVariants as ended
-use Rattle.streaming.specs.declared.Answer.TheVariants as answer
+use Rattle.streaming.specs.Answers.{Asked}
 use Rattle.streaming.proofs.Choose.{and_left, and_right}
 use Rattle.account.specs.Account.{Account, demand, ask_of, passed, says_at, records_within}
 use Rattle.account.specs.Statement.{Call, takes, refusal, answer_of, after, ended_by}
@@ -29,7 +27,7 @@ pub record Taken (q : Asked) (c : Call) : Type 0 where
   pub fits : length c.piece ≤ left
 
 pub taken : (q : Asked) (c : Call) → takes q c ≡ true → Taken q c
-taken (asked.Demand r) c e =
+taken (Ok (Some r)) c e =
     let n = length c.piece in
     let more = and_right (eqb c.offset r.offset) _ e in
     record {
@@ -38,8 +36,8 @@ taken (asked.Demand r) c e =
       some = ltb-true 0 n (and_left (ltb 0 n) _ more);
       fits = leb-true n r.len (and_right (ltb 0 n) _ more);
     }
-taken asked.Nothing c e = absurd (false≢true e)
-taken (asked.Refused e') c e = absurd (false≢true e)
+taken (Ok None) c e = absurd (false≢true e)
+taken (Err e') c e = absurd (false≢true e)
 
 -- how many bytes a call takes
 abbrev pub taking : Asked → Call → ℕ
@@ -62,7 +60,7 @@ after-refused a c e = rw e
 
 -- ---- answer_of
 
-pub answer-refused : (a : Account) (c : Call) → takes (ask_of a) c ≡ false → answer_of a c ≡ answer.Refused (refusal (ask_of a) c)
+pub answer-refused : (a : Account) (c : Call) → takes (ask_of a) c ≡ false → answer_of a c ≡ Err (refusal (ask_of a) c)
 unfolding answer_of when◌then◌else◌
 answer-refused a c e = rw e
 
@@ -94,7 +92,7 @@ answer-last n a c = split (takes (ask_of (passed n a)) c) refl
 -- ---- endedBy
 
 -- the walk is whole only where nothing is asked
-pub ended_whole : (q : Asked) → ended_by q ≡ ended.Whole → q ≡ asked.Nothing
-ended_whole (asked.Demand r) e = let z : ◌≡◌ {A = ℕ} 0 1 = cc in absurd (omega arith)
-ended_whole asked.Nothing e = refl
-ended_whole (asked.Refused e') e = let z : ◌≡◌ {A = ℕ} 0 1 = cc in absurd (omega arith)
+pub ended_whole : (q : Asked) → ended_by q ≡ Ok tt → q ≡ Ok None
+ended_whole (Ok (Some r)) e = let z : ◌≡◌ {A = ℕ} 0 1 = cc in absurd (omega arith)
+ended_whole (Ok None) e = refl
+ended_whole (Err e') e = let z : ◌≡◌ {A = ℕ} 0 1 = cc in absurd (omega arith)

@@ -2,9 +2,7 @@
 use Prim.Native.Nat.{ℕ}
 use mathlib.Core.List.{List, [], ◌∷◌}
 use mathlib.Core.Path.{◌≡◌, ◌∙◌}
-use Rattle.streaming.specs.declared.Asked.{Asked}
-use Rattle.streaming.specs.declared.Ended.{Ended}
-use Rattle.streaming.specs.declared.Answer.{Answer}
+use Rattle.streaming.specs.Answers.{Asked, Ended, Answer}
 use Rattle.account.specs.Account.{Account}
 use Rattle.account.specs.Statement.{Call, after, Walker, Honest, Asks, Follows, Meets}
 

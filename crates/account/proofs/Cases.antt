@@ -1,4 +1,5 @@
 -- The small format's runs: cut in two ways, refused, at fault in the middle of a piece; and walkers that do not meet it.
+use Rattle.std.specs.Prelude.{Ok, Err}
 use Prim.Native.Nat.{ℕ}
 use mathlib.Core.Bool.{false≢true}
 use mathlib.Core.List.{List, [], ◌∷◌}
@@ -10,9 +11,7 @@ use Rattle.streaming.specs.Choose.{when◌then◌else◌}
 use Rattle.streaming.specs.Record.{object, committed_in}
 use Rattle.streaming.specs.declared.Step.TheVariants as step
 use Rattle.streaming.specs.declared.StreamError.TheVariants as error
-use Rattle.streaming.specs.declared.Ended.TheVariants as ended
-use Rattle.streaming.specs.declared.Answer.{Answer}
-use Rattle.streaming.specs.declared.Answer.TheVariants as answer
+use Rattle.streaming.specs.Answers.{Answer}
 use Rattle.account.specs.Account.{demand, framing, bytes_taken, bytes_at_most}
 use Rattle.account.specs.Asking.{span, spell}
 use Rattle.account.specs.Statement.{Call, answer_of, after, ended_by, Walker, Honest, Meets}
@@ -56,13 +55,13 @@ unfolding when◌then◌else◌
 whole_four = whole_run Of rules tidy walker meets 10 src refl four_calls honest_four tt
 
 -- a call is refused by its offset first, then by its length; the end of input names what is still asked for
-refused : ((walker.feed (giving 10 1) (at 2 [])).0 ≡ answer.Refused (error.WrongOffset 1 2))
-    × ((walker.feed (giving 10 1) (at 1 [])).0 ≡ answer.Refused (error.InvalidFeed 1 0))
-    × ((walker.feed (giving 10 1) (at 1 (8 ∷ 5 ∷ []))).0 ≡ answer.Refused (error.InvalidFeed 1 2))
+refused : ((walker.feed (giving 10 1) (at 2 [])).0 ≡ Err (error.WrongOffset 1 2))
+    × ((walker.feed (giving 10 1) (at 1 [])).0 ≡ Err (error.InvalidFeed 1 0))
+    × ((walker.feed (giving 10 1) (at 1 (8 ∷ 5 ∷ []))).0 ≡ Err (error.InvalidFeed 1 2))
 unfolding when◌then◌else◌
 refused = (refl, refl, refl)
 
-truncated : walker.end_of_input (giving 10 0) ≡ ended.Refused (error.Truncated 0 2)
+truncated : walker.end_of_input (giving 10 0) ≡ Err (error.Truncated 0 2)
 truncated = refl
 
 -- a piece that is at fault in its first byte is taken whole: one byte for the rules, two for the caller
@@ -79,14 +78,14 @@ refuser = record {
   State = ℕ;
   start = λ h. h;
   request = λ h. demand 0 2;
-  feed = λ h c. (answer.Refused error.Finished, h);
+  feed = λ h c. (Err error.Finished, h);
   end_of_input = λ h. ended_by (demand 0 2);
 }
 
 refuser_fails : Meets Of rules refuser → ⊥
 unfolding Meets when◌then◌else◌ spell answer_of
 refuser_fails h =
-    let e : answer.Refused error.Finished ≡ framing = (h 10 src refl (at 0 (7 ∷ []) ∷ []) (λ e. refl, tt)).1 in
+    let e : Err error.Finished ≡ framing = (h 10 src refl (at 0 (7 ∷ []) ∷ []) (λ e. refl, tt)).1 in
     let z : ◌≡◌ {A = ℕ} 0 1 = cc in omega arith
 
 -- says nothing where the walker commits
@@ -99,5 +98,5 @@ silent = instead walker request_of (λ st c. (hushed (walker.feed st c).0, (walk
 silent_fails : Meets Of rules silent → ⊥
 unfolding Meets when◌then◌else◌ spell span answer_of after
 silent_fails h =
-    let e : framing ≡ answer.Step (step.Object (found 5)) = (h 10 src refl two_calls (λ e. refl, (λ e. refl, tt))).2.1 in
+    let e : framing ≡ Ok (step.Object (found 5)) = (h 10 src refl two_calls (λ e. refl, (λ e. refl, tt))).2.1 in
     let z : ◌≡◌ {A = ℕ} 0 1 = cc in omega arith

@@ -10,7 +10,7 @@ use lib.Dec.{eqb}
 use borrow.Author.Tests.{lt-ltb, eq-eqb, ne_eqb, eqb-true, eqb-false}
 use Rattle.streaming.specs.Choose.{when◌then◌else◌}
 use Rattle.streaming.specs.declared.Fault.{Fault}
-use Rattle.streaming.specs.declared.Answer.{Answer}
+use Rattle.streaming.specs.Answers.{Answer}
 use Rattle.account.specs.Account.{Account, ask, over, framing, faulted, broken, passed, says_at}
 use Rattle.account.specs.Asking.{Turn, go, says_before, ask_byte, span, one_by_one, spell}
 use Rattle.account.specs.Statement.{part}

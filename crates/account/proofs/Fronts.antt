@@ -1,4 +1,5 @@
 -- Laws of an account's fronts: what its first n bytes commit, what is left behind them, and what the n-th says.
+use Rattle.std.specs.Prelude.{Ok, Err, Some, None}
 use Prim.Native.Nat.{ℕ, zero, suc, ◌+◌, ◌≤◌, ◌<◌}
 use mathlib.Core.List.{List, [], ◌++◌, append_assoc, append-nil}
 use mathlib.Core.Path.{◌≡◌, refl, sym}
@@ -6,10 +7,7 @@ use native.Mathlib.Omega.{arith}
 use native.Mathlib.Nat.{zero-add, suc-add, add-suc}
 use Rattle.streaming.specs.Record.{committed_in}
 use Rattle.streaming.specs.declared.Step.TheVariants as step
-use Rattle.streaming.specs.declared.Asked.{Asked}
-use Rattle.streaming.specs.declared.Asked.TheVariants as asked
-use Rattle.streaming.specs.declared.Answer.{Answer}
-use Rattle.streaming.specs.declared.Answer.TheVariants as answer
+use Rattle.streaming.specs.Answers.{Asked, Answer}
 use Rattle.account.specs.Account.{Account, ask, over, demand, ask_of, passed, says_in, says_at, records_in, records_within, ending_of}
 use Rattle.account.specs.Runs.{Past}
 use Rattle.account.specs.Tidy.{Quiet, last, more, torn, Tidy, tidy_over, tidy_ask}
@@ -64,17 +62,17 @@ says_at_lem n (suc k) a h = rw add-suc (says-passed n k a)
 -- ---- of a demand's bytes only the last commits
 
 quiet_commits : (s : Answer) → Quiet s → committed_in s ≡ []
-quiet_commits (answer.Step step.Framing) q = refl
-quiet_commits (answer.Step (step.Payload part)) q = refl
-quiet_commits (answer.Step (step.Section r)) q = absurd q
-quiet_commits (answer.Step (step.Object r)) q = absurd q
-quiet_commits (answer.Step step.Finished) q = absurd q
-quiet_commits (answer.Refused e) q = absurd q
+quiet_commits (Ok step.Framing) q = refl
+quiet_commits (Ok (step.Payload part)) q = refl
+quiet_commits (Ok (step.Section r)) q = absurd q
+quiet_commits (Ok (step.Object r)) q = absurd q
+quiet_commits (Ok step.Finished) q = absurd q
+quiet_commits (Err e) q = absurd q
 
 end_commits : (q : Asked) → committed_in (says_in q) ≡ []
-end_commits (asked.Demand r) = refl
-end_commits asked.Nothing = refl
-end_commits (asked.Refused e) = refl
+end_commits (Ok (Some r)) = refl
+end_commits (Ok None) = refl
+end_commits (Err e) = refl
 
 pub last_commits : {src : List ℕ} (n : ℕ) {a : Account} → Tidy src a → (at left : ℕ) → ask_of a ≡ demand at left → suc n ≤ left
     → committed_in (says_at (suc n) a) ≡ records_within (suc n) a

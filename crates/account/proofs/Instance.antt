@@ -1,5 +1,6 @@
 -- A small format, so that nothing here is vacuous: two given bytes, then one below the header's limit, which is a record.
 -- Its accounts are well formed, and a walker meets it. Its runs are in Cases.
+use Rattle.std.specs.Prelude.{Ok, None}
 use Prim.Native.Nat.{ℕ, ◌+◌, ◌-◌, ◌≤◌, ◌<◌}
 use mathlib.Core.List.{List, [], ◌∷◌, ◌++◌}
 use mathlib.Core.Logic.{◌⊎◌, inl, inr}
@@ -13,10 +14,7 @@ use Rattle.streaming.specs.declared.ObjectRecord.{ObjectRecord}
 use Rattle.streaming.specs.declared.Step.TheVariants as step
 use Rattle.streaming.specs.declared.Fault.{Fault}
 use Rattle.streaming.specs.declared.Fault.TheVariants as fault
-use Rattle.streaming.specs.declared.Asked.{Asked}
-use Rattle.streaming.specs.declared.Asked.TheVariants as asked
-use Rattle.streaming.specs.declared.Answer.{Answer}
-use Rattle.streaming.specs.declared.Answer.TheVariants as answer
+use Rattle.streaming.specs.Answers.{Asked, Answer}
 use Rattle.account.specs.Account.{Account, over, demand, framing, faulted, broken}
 use Rattle.account.specs.Asking.{Turn, go, bad, span, spell}
 use Rattle.account.specs.Statement.{part, Walker, Meets}
@@ -41,7 +39,7 @@ abbrev pub found : ℕ → ObjectRecord
 found b = record { handle = 0; offset = 2; size = b; type_code = 0 }
 
 abbrev pub number_turn : (limit b : ℕ) → Turn
-number_turn limit b = when ltb b limit then go (answer.Step (step.Object (found b))) (over asked.Nothing) else bad large
+number_turn limit b = when ltb b limit then go (Ok (step.Object (found b))) (over (Ok None)) else bad large
 
 abbrev pub rules : (limit : ℕ) → List ℕ → Account
 rules limit src = spell src 0 given other (go framing (span src 2 1 framing (number_turn limit (get_or src 2 0))))
@@ -64,7 +62,7 @@ pub data State : Type 0 where
 abbrev pub request_of : State → Asked
 request_of (giving limit done) = demand done (2 - done)
 request_of (number limit) = demand 2 1
-request_of ended = asked.Nothing
+request_of ended = Ok None
 request_of (failed f) = broken f
 
 -- by whether the piece has the given bytes
@@ -73,7 +71,7 @@ feed_given limit done p (inl e) = when eqb (done + length p) 2 then (framing, nu
 feed_given limit done p (inr e) = (faulted other, failed other)
 
 abbrev pub feed_number : (limit b : ℕ) → Answer × State
-feed_number limit b = when ltb b limit then (answer.Step (step.Object (found b)), ended) else (faulted large, failed large)
+feed_number limit b = when ltb b limit then (Ok (step.Object (found b)), ended) else (faulted large, failed large)
 
 abbrev pub feed_of : State → List ℕ → Answer × State
 feed_of (giving limit done) p = feed_given limit done p (same_or_not p (part given done (length p)))

@@ -1,4 +1,5 @@
 -- The file to open first: what follows for any walker that meets some rules, each statement in full, and where its proof stands.
+use Rattle.std.specs.Prelude.{Ok, Err}
 use Prim.Native.Nat.{ℕ, ◌+◌, ◌≤◌}
 use mathlib.Core.Bool.{false}
 use mathlib.Core.List.{List, [], ◌++◌}
@@ -8,11 +9,7 @@ use lib.ListN.{length}
 use Rattle.streaming.specs.Choose.{when◌then◌else◌}
 use Rattle.streaming.specs.Record.{committed_in}
 use Rattle.streaming.specs.declared.Fault.{Fault}
-use Rattle.streaming.specs.declared.Asked.{Asked}
-use Rattle.streaming.specs.declared.Ended.{Ended}
-use Rattle.streaming.specs.declared.Ended.TheVariants as ended
-use Rattle.streaming.specs.declared.Answer.{Answer}
-use Rattle.streaming.specs.declared.Answer.TheVariants as answer
+use Rattle.streaming.specs.Answers.{Asked, Ended, Answer}
 use Rattle.account.specs.Account.{Account, broken, passed, says_at, records_in, records_within}
 use Rattle.account.specs.Statement.{Call, takes, refusal, Walker, HonestCall, Honest, Meets}
 use Rattle.account.specs.Runs.{run, bytes, committed, Past, Whole, Bounded, Repeats, Front, Alike}
@@ -54,12 +51,12 @@ module _ {H : Type 0} (Of : H → List ℕ → Type 0) (rules : H → List ℕ �
     whole_run = S.whole W (tidy h src of) (W.start h) doing cs honest
 
     -- So has a run whose end of input is answered as whole.
-    pub told-whole : W.end_of_input (run W (W.start h) cs) ≡ ended.Whole → Whole W (rules h src) (W.start h) cs
+    pub told-whole : W.end_of_input (run W (W.start h) cs) ≡ Ok tt → Whole W (rules h src) (W.start h) cs
     told-whole = S.told-whole W (tidy h src of) (W.start h) doing cs honest
 
     -- A call that is not taken is refused for what it does not fit,
     pub refused_for : (c : Call) → takes (W.request (run W (W.start h) cs)) c ≡ false
-        → (W.feed (run W (W.start h) cs) c).0 ≡ answer.Refused (refusal (W.request (run W (W.start h) cs)) c)
+        → (W.feed (run W (W.start h) cs) c).0 ≡ Err (refusal (W.request (run W (W.start h) cs)) c)
     refused_for = R.refuses W (run W (W.start h) cs) _ doing_on
 
     -- and changes nothing that can be seen: without it and behind it, every list of calls hears the same.

@@ -1,11 +1,11 @@
 -- Calls that are refused: one that does not fit changes nothing, and behind a fault every call is answered by the fault.
+use Rattle.std.specs.Prelude.{Err}
 use Prim.Native.Nat.{ℕ}
 use mathlib.Core.Bool.{false, false≢true}
 use mathlib.Core.List.{List, [], ◌∷◌}
 use mathlib.Core.Path.{◌≡◌, refl, sym, ap, ◌∙◌, subst}
 use native.Mathlib.Omega.{arith}
 use Rattle.streaming.specs.declared.Fault.{Fault}
-use Rattle.streaming.specs.declared.Answer.TheVariants as answer
 use Rattle.account.specs.Account.{Account, ask, over, ask_of, broken}
 use Rattle.account.specs.Statement.{Call, takes, refusal, Walker, HonestCall, Honest}
 use Rattle.account.specs.Runs.{run, Alike, Repeats}
@@ -23,7 +23,7 @@ module _ {H : Type 0} (W : Walker H) {src : List ℕ} where
     not_taken : takes (ask_of a) c ≡ false
     not_taken = rw (← (asks W st a does).request) no
 
-    pub refuses : (W.feed st c).0 ≡ answer.Refused (refusal (W.request st) c)
+    pub refuses : (W.feed st c).0 ≡ Err (refusal (W.request st) c)
     refuses = answers W st a does c (λ e. absurd (false≢true (sym no ∙ e))) ∙ answer-refused a c not_taken ∙ rw (asks W st a does).request
 
     -- the state behind it asks and answers as the one before it

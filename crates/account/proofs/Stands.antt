@@ -1,4 +1,5 @@
 -- A committed record stands: what a walker has committed is what the account commits in the bytes taken.
+use Rattle.std.specs.Prelude.{Ok}
 use Prim.Native.Nat.{ℕ, ◌+◌, ◌-◌, ◌≤◌}
 use mathlib.Core.Bool.{Bool, true, false}
 use mathlib.Core.List.{List, [], ◌∷◌, ◌++◌, append-nil}
@@ -10,7 +11,6 @@ use lib.Dec.{leb}
 use borrow.Author.Tests.{leb-true, leb-false}
 use Rattle.streaming.specs.Choose.{when◌then◌else◌}
 use Rattle.streaming.specs.Record.{committed_in}
-use Rattle.streaming.specs.declared.Ended.TheVariants as ended
 use Rattle.account.specs.Account.{Account, ask_of, passed, says_at, records_in, records_within, ending_of}
 use Rattle.account.specs.Statement.{Call, takes, ended_by, Walker, HonestCall, Honest, Follows}
 use Rattle.account.specs.Runs.{run, bytes, committed, Past, Whole, Front}
@@ -59,7 +59,7 @@ module _ {H : Type 0} (W : Walker H) {src : List ℕ} where
           end_of_input = q.end_of_input ∙ ap ended_by e;
         }
 
-    pub told-whole : (cs : List Call) → Honest W src st cs → W.end_of_input (run W st cs) ≡ ended.Whole → Whole W a st cs
+    pub told-whole : (cs : List Call) → Honest W src st cs → W.end_of_input (run W st cs) ≡ Ok tt → Whole W a st cs
     told-whole cs h e =
         let q = asks W (run W st cs) _ (does_run W cs st a does h) in
         whole cs h (subst (Past src) (sym (q.request ∙ ended_whole _ (sym q.end_of_input ∙ e))) tt)

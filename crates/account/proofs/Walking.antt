@@ -1,12 +1,12 @@
 -- The walker over a machine that takes pieces: it refuses what does not fit what it asks for, and hands the rest to the machine. It meets the rules
 -- if, from its start, the machine goes through every source as they say.
+use Rattle.std.specs.Prelude.{Err}
 use Prim.Native.Nat.{ℕ}
 use mathlib.Core.Bool.{Bool, true, false}
 use mathlib.Core.List.{List, [], ◌∷◌}
 use mathlib.Core.Path.{◌≡◌, refl, ap}
 use Rattle.streaming.specs.Choose.{when◌then◌else◌}
-use Rattle.streaming.specs.declared.Answer.{Answer}
-use Rattle.streaming.specs.declared.Answer.TheVariants as answer
+use Rattle.streaming.specs.Answers.{Answer}
 use Rattle.account.specs.Account.{Account, ask_of}
 use Rattle.account.specs.Statement.{Call, takes, refusal, answer_of, after, ended_by, Walker, HonestCall, Honest, Asks, Follows, Meets}
 use Rattle.account.proofs.Calls.{taken}
@@ -14,7 +14,7 @@ use Rattle.account.proofs.Walks.{Machine, On, on_asks, on_takes}
 
 module _ {H : Type 0} (M : Machine) (start : H → M.State) where
   abbrev pub fed : M.State → Call → Answer × M.State
-  fed st c = when takes (M.request st) c then M.feed st c.piece else (answer.Refused (refusal (M.request st) c), st)
+  fed st c = when takes (M.request st) c then M.feed st c.piece else (Err (refusal (M.request st) c), st)
 
   abbrev pub walker_of : Walker H
   walker_of = record { State = M.State; start = start; request = M.request; feed = fed; end_of_input = λ st. ended_by (M.request st) }

@@ -12,8 +12,7 @@ use lib.Seq.{drop-drop}
 use borrow.Author.Tests.{eqb-true, eqb-false}
 use Rattle.streaming.specs.Choose.{when◌then◌else◌}
 use Rattle.streaming.specs.declared.Fault.{Fault}
-use Rattle.streaming.specs.declared.Asked.{Asked}
-use Rattle.streaming.specs.declared.Answer.{Answer}
+use Rattle.streaming.specs.Answers.{Asked, Answer}
 use Rattle.account.specs.Account.{Account, over, demand, framing, faulted, broken, ask_of, passed, says_at}
 use Rattle.account.specs.Asking.{Turn, go, bad, span, spell}
 use Rattle.account.specs.Runs.{Past}

@@ -1,15 +1,12 @@
 -- The account of a walk over a whole source: what is asked for and what is said, byte by byte. Cuts and calls have no place in it.
-use Rattle.std.specs.Prelude.{ℕ, zero, suc, ◌+◌, List, [], ◌++◌}
+use Rattle.std.specs.Prelude.{ℕ, zero, suc, ◌+◌, List, [], ◌++◌, Ok, Err, Some, None}
 use Rattle.streaming.specs.Record.{Record, committed_in}
 use Rattle.streaming.specs.declared.Part.{Part}
 use Rattle.streaming.specs.declared.Step.{Step}
 use Rattle.streaming.specs.declared.Step.TheVariants as step
 use Rattle.streaming.specs.declared.Fault.{Fault}
 use Rattle.streaming.specs.declared.StreamError.TheVariants as error
-use Rattle.streaming.specs.declared.Asked.{Asked}
-use Rattle.streaming.specs.declared.Asked.TheVariants as asked
-use Rattle.streaming.specs.declared.Answer.{Answer}
-use Rattle.streaming.specs.declared.Answer.TheVariants as answer
+use Rattle.streaming.specs.Answers.{Asked, Answer}
 
 -- Each byte asked for: its place, how much of its demand is left from it on, and what a call says whose last byte it is.
 -- Then what is asked in the end; a demand there is one that the source has no bytes for.
@@ -20,23 +17,23 @@ pub data Account : Type 0 where
 -- ---- what is asked and said
 
 abbrev pub demand : (at left : ℕ) → Asked
-demand at left = asked.Demand (record { offset = at; len = left })
+demand at left = Ok (Some (record { offset = at; len = left }))
 
 abbrev pub framing : Answer
-framing = answer.Step step.Framing
+framing = Ok step.Framing
 
 abbrev pub payload : Part → Answer
-payload part = answer.Step (step.Payload part)
+payload part = Ok (step.Payload part)
 
 abbrev pub finished : Answer
-finished = answer.Step step.Finished
+finished = Ok step.Finished
 
 -- a fault is said at the byte that brings it, and asked about ever after
 abbrev pub faulted : Fault → Answer
-faulted f = answer.Refused (error.Fault f)
+faulted f = Err (error.Fault f)
 
 abbrev pub broken : Fault → Asked
-broken f = asked.Refused (error.Fault f)
+broken f = Err (error.Fault f)
 
 -- what is asked first
 abbrev pub ask_of : Account → Asked
@@ -51,9 +48,9 @@ passed (suc n) (over q) = over q
 
 -- what is said behind the end: the fault again, where there is one
 abbrev pub says_in : Asked → Answer
-says_in (asked.Demand r) = framing
-says_in asked.Nothing = framing
-says_in (asked.Refused e) = answer.Refused e
+says_in (Ok (Some r)) = framing
+says_in (Ok None) = framing
+says_in (Err e) = Err e
 
 -- what the n-th byte says
 abbrev pub says_at : ℕ → Account → Answer
@@ -85,8 +82,8 @@ bytes_taken (over q) = 0
 
 -- The most bytes that pieces can bring: the piece that is at fault may hold all the rest of its demand.
 abbrev pub brought_by : (left : ℕ) → Answer → ℕ
-brought_by left (answer.Step s) = 1
-brought_by left (answer.Refused e) = left
+brought_by left (Ok s) = 1
+brought_by left (Err e) = left
 
 unfoldable pub bytes_at_most : Account → ℕ
 bytes_at_most (ask at left says rest) = brought_by left says + bytes_at_most rest
@@ -101,8 +98,8 @@ payload_step (step.Object r) = 0
 payload_step step.Finished = 0
 
 abbrev pub payload_byte : Answer → ℕ
-payload_byte (answer.Step s) = payload_step s
-payload_byte (answer.Refused e) = 0
+payload_byte (Ok s) = payload_step s
+payload_byte (Err e) = 0
 
 unfoldable pub payload_taken : Account → ℕ
 payload_taken (ask at left says rest) = payload_byte says + payload_taken rest

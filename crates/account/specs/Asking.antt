@@ -2,7 +2,7 @@
 use Rattle.std.specs.Prelude.{ℕ, zero, suc, List, [], ◌∷◌, length, get_or, ltb, eqb}
 use Rattle.streaming.specs.Choose.{when◌then◌else◌}
 use Rattle.streaming.specs.declared.Fault.{Fault}
-use Rattle.streaming.specs.declared.Answer.{Answer}
+use Rattle.streaming.specs.Answers.{Answer}
 use Rattle.account.specs.Account.{Account, ask, over, demand, framing, faulted, broken}
 
 -- what the last byte of a demand says, and how the walk goes on behind it

@@ -1,10 +1,9 @@
 -- What a run of a walker is seen to do: the words of the promises.
-use Rattle.std.specs.Prelude.{ℕ, ◌+◌, ◌≤◌, List, [], ◌∷◌, ◌++◌, ◌≡◌, length}
+use Rattle.std.specs.Prelude.{ℕ, ◌+◌, ◌≤◌, List, [], ◌∷◌, ◌++◌, ◌≡◌, length, Ok, Err, Some, None}
 use Rattle.streaming.specs.Choose.{when◌then◌else◌}
 use Rattle.streaming.specs.Record.{Record, committed_in}
 use Rattle.streaming.specs.declared.Fault.{Fault}
-use Rattle.streaming.specs.declared.Asked.{Asked}
-use Rattle.streaming.specs.declared.Asked.TheVariants as asked
+use Rattle.streaming.specs.Answers.{Asked}
 use Rattle.account.specs.Account.{Account, records_in, ending_of, bytes_taken, bytes_at_most, faulted, broken}
 use Rattle.account.specs.Statement.{Call, takes, ended_by, Walker}
 
@@ -31,9 +30,9 @@ module _ {H : Type 0} (W : Walker H) where
 
 -- the source has nothing of what is asked for: a demand past its end, or no demand
 abbrev pub Past : (src : List ℕ) → Asked → Type 0
-Past src (asked.Demand r) = length src ≤ r.offset
-Past src asked.Nothing = Unit {0}
-Past src (asked.Refused e) = Unit {0}
+Past src (Ok (Some r)) = length src ≤ r.offset
+Past src (Ok None) = Unit {0}
+Past src (Err e) = Unit {0}
 
 -- a run from a state has all the records of an account, and ends as it does
 pub record Whole {H : Type 0} (W : Walker H) (a : Account) (st : W.State) (cs : List Call) : Type 0 where

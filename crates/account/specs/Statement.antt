@@ -1,14 +1,9 @@
 -- The statement: what it is for any walker to follow the rules of a format, over every list of calls. Nothing here knows the format.
-use Rattle.std.specs.Prelude.{ℕ, Bool, true, false, ◌&&◌, List, [], ◌∷◌, ◌≡◌, length, take, drop, ltb, leb, eqb}
+use Rattle.std.specs.Prelude.{ℕ, Bool, true, false, ◌&&◌, List, [], ◌∷◌, ◌≡◌, length, take, drop, ltb, leb, eqb, Ok, Err, Some, None}
 use Rattle.streaming.specs.Choose.{when◌then◌else◌}
 use Rattle.streaming.specs.declared.StreamError.{StreamError}
 use Rattle.streaming.specs.declared.StreamError.TheVariants as error
-use Rattle.streaming.specs.declared.Asked.{Asked}
-use Rattle.streaming.specs.declared.Asked.TheVariants as asked
-use Rattle.streaming.specs.declared.Ended.{Ended}
-use Rattle.streaming.specs.declared.Ended.TheVariants as ended
-use Rattle.streaming.specs.declared.Answer.{Answer}
-use Rattle.streaming.specs.declared.Answer.TheVariants as answer
+use Rattle.streaming.specs.Answers.{Asked, Ended, Answer}
 use Rattle.account.specs.Account.{Account, ask_of, passed, says_at}
 
 -- ---- calls
@@ -20,30 +15,30 @@ pub record Call : Type 0 where
 
 -- a call is taken that brings a nonempty front of the demand, at its place
 abbrev pub takes : Asked → Call → Bool
-takes (asked.Demand r) c = eqb c.offset r.offset && (ltb 0 (length c.piece) && leb (length c.piece) r.len)
-takes asked.Nothing c = false
-takes (asked.Refused e) c = false
+takes (Ok (Some r)) c = eqb c.offset r.offset && (ltb 0 (length c.piece) && leb (length c.piece) r.len)
+takes (Ok None) c = false
+takes (Err e) c = false
 
 -- and why another one is not
 abbrev pub refusal : Asked → Call → StreamError
-refusal (asked.Demand r) c =
+refusal (Ok (Some r)) c =
     when eqb c.offset r.offset then error.InvalidFeed r.len (length c.piece) else error.WrongOffset r.offset c.offset
-refusal asked.Nothing c = error.Finished
-refusal (asked.Refused e) c = e
+refusal (Ok None) c = error.Finished
+refusal (Err e) c = e
 
 -- ---- what an account answers to a call, and what is left of it
 
 unfoldable pub answer_of : Account → Call → Answer
-answer_of a c = when takes (ask_of a) c then says_at (length c.piece) a else answer.Refused (refusal (ask_of a) c)
+answer_of a c = when takes (ask_of a) c then says_at (length c.piece) a else Err (refusal (ask_of a) c)
 
 unfoldable pub after : Account → Call → Account
 after a c = when takes (ask_of a) c then passed (length c.piece) a else a
 
 -- what the end of input says, by what is still asked for
 abbrev pub ended_by : Asked → Ended
-ended_by (asked.Demand r) = ended.Refused (error.Truncated r.offset r.len)
-ended_by asked.Nothing = ended.Whole
-ended_by (asked.Refused e) = ended.Refused e
+ended_by (Ok (Some r)) = Err (error.Truncated r.offset r.len)
+ended_by (Ok None) = Ok tt
+ended_by (Err e) = Err e
 
 -- ---- walkers
 

@@ -1,22 +1,20 @@
 -- A well-formed account: it asks only for bytes that the source has, demand by demand, and within a demand only the last byte says anything that a
 -- caller would act on, but for a fault.
-use Rattle.std.specs.Prelude.{ℕ, suc, ◌<◌, List, ◌≡◌, length}
+use Rattle.std.specs.Prelude.{ℕ, suc, ◌<◌, List, ◌≡◌, length, Ok, Err}
 use Rattle.streaming.specs.declared.Step.TheVariants as step
 use Rattle.streaming.specs.declared.Fault.{Fault}
-use Rattle.streaming.specs.declared.Asked.{Asked}
-use Rattle.streaming.specs.declared.Answer.{Answer}
-use Rattle.streaming.specs.declared.Answer.TheVariants as answer
+use Rattle.streaming.specs.Answers.{Asked, Answer}
 use Rattle.account.specs.Account.{Account, ask, over, ask_of, demand, faulted, broken}
 use Rattle.account.specs.Runs.{Past}
 
 -- says nothing that a caller would act on
 abbrev pub Quiet : Answer → Type 0
-Quiet (answer.Step step.Framing) = Unit {0}
-Quiet (answer.Step (step.Payload part)) = Unit {0}
-Quiet (answer.Step (step.Section r)) = ⊥
-Quiet (answer.Step (step.Object r)) = ⊥
-Quiet (answer.Step step.Finished) = ⊥
-Quiet (answer.Refused e) = ⊥
+Quiet (Ok step.Framing) = Unit {0}
+Quiet (Ok (step.Payload part)) = Unit {0}
+Quiet (Ok (step.Section r)) = ⊥
+Quiet (Ok (step.Object r)) = ⊥
+Quiet (Ok step.Finished) = ⊥
+Quiet (Err e) = ⊥
 
 -- how a byte of a demand is followed: it is the demand's last; or it is quiet and the rest of the demand follows; or it is at fault
 pub data Joined : (at left : ℕ) → Answer → Account → Type 0 where

@@ -2,9 +2,9 @@
 ghost use Rattle.std.specs.Prelude.{◌≡◌, take};
 ghost use Rattle.octets.specs.Octets.{big_endian};
 ghost use Rattle.chunk.specs.Chunk.{settle_chunk_size, settle_chunk, settle_chunk_crc};
-ghost use Rattle.chunk.specs.Fit.{FitChunk};
 
-use streaming::{Answer, Fault, Fed, FlatWalker, MapCursor, Stage, Step, fell, go_on};
+use crate::{Chunk, SEED, at_chunk};
+use streaming::{Fault, Fed, FlatWalker, MapCursor, Stage, Step, fell, go_on};
 
 // The number in the first two bytes of a field, highest byte first.
 pub fn number_in(field: [u8; 4]) -> u16
@@ -13,79 +13,76 @@ pub fn number_in(field: [u8; 4]) -> u16
     octets::be16(field[0], field[1])
 }
 
-// The size is whole: the chunk has to fit the map.
-pub fn settle_chunk_size(s: FlatWalker, field: [u8; 4], size: u32) -> Fed
-    requires { FitChunk s }
-    ensures { result ≡ settle_chunk_size s field size }
-{
-    let m = s.map;
-    let end = header::map_end(s.header);
-    if (2 <= size) & (size <= 2034) & (m.chunk + size as u64 + 2 <= end) {
-        let crc = crc::crc8(0xc0c1, &field[0..2]);
-        return go_on(s, 2, size, crc, field);
-    }
-    fell(Fault::MapChunk(m.chunk), s)
-}
-
-// The checksum holds. Size 2 ends the walk, and has to end the map; any other size is of entries.
-fn settle_chunk(s: FlatWalker, field: [u8; 4]) -> Fed
-    requires { FitChunk s }
-    ensures { result ≡ settle_chunk s field }
-{
-    let m = s.map;
-    if s.size == 2 {
+impl Chunk {
+    // The size is whole: the chunk has to fit the map.
+    pub(crate) fn settle_size(self, field: [u8; 4], size: u32) -> Fed
+        ensures { result ≡ settle_chunk_size self.walker field size }
+    {
+        let s = self.walker;
+        let m = s.map;
         let end = header::map_end(s.header);
-        if m.chunk + 4 == end {
-            return Fed {
-                answer: Answer::Step(Step::Finished),
-                state: FlatWalker {
-                    stage: Stage::Done,
-                    done: 4,
-                    size: 2,
-                    field: field,
-                    ..s
-                },
-            };
+        if (2 <= size) & (size <= 2034) & (m.chunk + size as u64 + 2 <= end) {
+            let crc = crc::crc8(SEED, &field[0..2]);
+            return go_on(s, 2, size, crc, field);
         }
-        return fell(Fault::MapChunk(m.chunk), s);
+        fell(Fault::MapChunk(m.chunk), s)
     }
-    let first = MapCursor {
-        chunk: m.chunk,
-        len: s.size,
-        at: m.chunk + 2,
-        handle: 0,
-        loc: 0,
-        mc: 0,
-        shift: 0,
-        field: 0,
-    };
-    Fed {
-        answer: Answer::Step(Step::Framing),
-        state: FlatWalker {
-            stage: Stage::Entry,
-            done: s.size + 2,
-            field: field,
-            map: first,
-            ..s
-        },
-    }
-}
 
-// The checksum is whole.
-pub fn settle_chunk_crc(s: FlatWalker, field: [u8; 4], stored: u16) -> Fed
-    requires { FitChunk s }
-    ensures { result ≡ settle_chunk_crc s field stored }
-{
-    let m = s.map;
-    if stored == s.crc {
-        return settle_chunk(s, field);
+    // The checksum holds. Size 2 ends the walk, and has to end the map; any other size is of entries.
+    fn settle(self, field: [u8; 4]) -> Fed
+        ensures { result ≡ settle_chunk self.walker field }
+    {
+        let s = self.walker;
+        let m = s.map;
+        if s.size == 2 {
+            let end = header::map_end(s.header);
+            if m.chunk + 4 == end {
+                return Fed {
+                    answer: Ok(Step::Finished),
+                    state: FlatWalker {
+                        stage: Stage::Done,
+                        done: 4,
+                        size: 2,
+                        field: field,
+                        ..s
+                    },
+                };
+            }
+            return fell(Fault::MapChunk(m.chunk), s);
+        }
+        let first = MapCursor {
+            len: s.size,
+            at: m.chunk + 2,
+            ..at_chunk(m.chunk)
+        };
+        Fed {
+            answer: Ok(Step::Framing),
+            state: FlatWalker {
+                stage: Stage::Entry,
+                done: s.size + 2,
+                field: field,
+                map: first,
+                ..s
+            },
+        }
     }
-    fell(
-        Fault::MapCrc {
-            chunk: m.chunk,
-            expected: s.crc,
-            actual: stored,
-        },
-        s,
-    )
+
+    // The checksum is whole.
+    pub(crate) fn settle_crc(self, field: [u8; 4], stored: u16) -> Fed
+        ensures { result ≡ settle_chunk_crc self.walker field stored }
+    {
+        let s = self.walker;
+        let m = s.map;
+        if stored == s.crc {
+            return self.settle(field);
+        }
+        fell(
+            Fault::MapCrc {
+                chunk: m.chunk,
+                expected: s.crc,
+                actual: stored,
+            },
+            s,
+        )
+    }
 }

@@ -1,28 +1,19 @@
 -- The step is linear over xor: so the checksum of some bytes is one xor of entries, each of the row of the bytes behind it.
 use mathlib.Core.Path.{◌≡◌, refl, sym, ap, ap₂, ◌∙◌}
 use mathlib.Core.List.{List, [], ◌∷◌}
-use Prim.Native.Nat.{ℕ, zero, suc, ◌+◌, ◌*◌, ◌/◌, ◌%◌, ◌^◌, ◌<◌}
+use Prim.Native.Nat.{ℕ, zero, suc, ◌*◌, ◌/◌, ◌%◌, ◌^◌, ◌<◌}
 use native.Mathlib.Nat.{mod-lt, div-add-mod', le_of_suc-le-suc, not-suc-le-zero}
 use native.Mathlib.Omega.{arith}
-use lib.Arith.{bin_ind}
-use lib.Bits.{bit_xor, differ, xor_step, xor_comm, xor_zero_r, xor_shr, xor_mod, xor_shifted, shifted_half, shifted_even}
+use lib.Bits.{bit_xor, differ, xor_comm, xor_zero_r, xor_shr, xor_mod, xor_shifted, shifted_half, shifted_even}
 use lib.ListN.{length, get_or}
+use Rattle.std.specs.Int.Bits.{xor_assoc}
 use Rattle.crc.specs.Crc.{polynomial_if, step, steps, crc_byte, crc_of}
 use Rattle.crc.specs.Rows.{row_of}
 
--- ---- xor associates
+-- ---- xor, half by half
 
 two : {x : ℕ} {A : Type 0} → suc (suc x) < 2 → A
 two h = absurd (not-suc-le-zero (le_of_suc-le-suc (le_of_suc-le-suc h)))
-
-differ_assoc : (x y z : ℕ) → x < 2 → y < 2 → z < 2 → differ (differ x y) z ≡ differ x (differ y z)
-differ_assoc zero y z hx hy hz = refl
-differ_assoc (suc zero) zero z hx hy hz = refl
-differ_assoc (suc zero) (suc zero) zero hx hy hz = refl
-differ_assoc (suc zero) (suc zero) (suc zero) hx hy hz = refl
-differ_assoc (suc zero) (suc zero) (suc (suc z)) hx hy hz = two hz
-differ_assoc (suc zero) (suc (suc y)) z hx hy hz = two hy
-differ_assoc (suc (suc x)) y z hx hy hz = two hx
 
 xor_of_bits : (x y : ℕ) → x < 2 → y < 2 → bit_xor x y ≡ differ x y
 xor_of_bits zero y hx hy = refl
@@ -39,16 +30,6 @@ xor_half a b = xor_shr a b 1
 
 xor_bit : (a b : ℕ) → bit_xor a b % 2 ≡ differ (a % 2) (b % 2)
 xor_bit a b = xor_mod a b 1 ∙ xor_of_bits (a % 2) (b % 2) (bit a) (bit b)
-
-pub xor_assoc : (a b c : ℕ) → bit_xor (bit_xor a b) c ≡ bit_xor a (bit_xor b c)
-xor_assoc =
-    bin_ind (λ (n : ℕ). (b c : ℕ) → bit_xor (bit_xor n b) c ≡ bit_xor n (bit_xor b c)) (λ b c. refl)
-    (λ n ih b c.
-    xor_step (bit_xor n b) c
-    ∙ ap₂ (λ (x y : ℕ). bit_xor x (c / 2) * 2 + differ y (c % 2)) (xor_half n b) (xor_bit n b)
-    ∙ ap₂ (λ (x y : ℕ). x * 2 + y) (ih (b / 2) (c / 2)) (differ_assoc (n % 2) (b % 2) (c % 2) (bit n) (bit b) (bit c))
-    ∙ sym (ap₂ (λ (x y : ℕ). bit_xor (n / 2) x * 2 + differ (n % 2) y) (xor_half b c) (xor_bit b c))
-    ∙ sym (xor_step n (bit_xor b c)))
 
 xor4 : (a b c d : ℕ) → bit_xor (bit_xor a b) (bit_xor c d) ≡ bit_xor (bit_xor a c) (bit_xor b d)
 xor4 a b c d =

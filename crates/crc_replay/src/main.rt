@@ -2,90 +2,107 @@
 // `E` row place: an entry of the table. `C`, `P`, `L` seed length bytes: `crc8`, the plain path, the path with a lent table.
 #![tactic(auto)]
 
-ghost use Rattle.std.specs.Prelude.{◌≤◌, length};
+ghost use Rattle.std.specs.Prelude.{◌<◌, length, IfSome};
 ghost use Rattle.crc.specs.Rows.{Table};
 
 use std::io;
 use std::io::Read;
 
-// The bytes of the operation that begins s, or 0 where it is malformed.
-fn size(s: &[u8]) -> usize
-    ensures { result ≤ length s.now }
-{
-    if s.len() < 3 {
-        return 0;
+// An entry's place in the table.
+#[derive(Clone, Copy)]
+struct Place {
+    row: u8,
+    column: u8,
+    ghost in_table: { row < 8 },
+}
+
+impl Place {
+    // None where the table has no such row.
+    fn new(row: u8, column: u8) -> Option<Place> {
+        if row < 8 {
+            Some(Place { row, column })
+        } else {
+            None
+        }
     }
-    let letter = s[0];
+}
+
+// A seed, and the bytes behind it.
+#[derive(Clone, Copy)]
+struct Message<'a> {
+    seed: u16,
+    bytes: &'a [u8],
+}
+
+#[derive(Clone, Copy)]
+enum Operation<'a> {
+    Entry(Place),
+    Whole(Message<'a>),
+    Plain(Message<'a>),
+    Lent(Message<'a>),
+}
+
+impl Operation<'_> {
+    fn answer(self, rows: &[[u16; 256]; 8]) -> u16
+        requires { Table rows.now }
+    {
+        match self {
+            Operation::Entry(at) => rows[usize::from(at.row)][usize::from(at.column)],
+            Operation::Whole(m) => crc::crc8(m.seed, m.bytes),
+            Operation::Plain(m) => crc::crc8_plain(m.seed, m.bytes),
+            Operation::Lent(m) => crc::by_eight(rows, m.seed, m.bytes),
+        }
+    }
+}
+
+// The operation that begins s, and what stands behind it. None where it is malformed.
+fn first(s: &[u8]) -> Option<(Operation<'_>, &[u8])>
+    ensures { IfSome result (λ r. length r.1.now < length s.now) }
+{
+    let (&[letter, low, high], rest) = s.split_first_chunk::<3>()?;
     if letter == b'E' {
-        return if s[1] > 7 { 0 } else { 3 };
+        return Some((Operation::Entry(Place::new(low, high)?), rest));
     }
-    if (letter != b'C') & (letter != b'P') & (letter != b'L') {
-        return 0;
+    let (count, rest) = rest.split_first_chunk::<4>()?;
+    let (bytes, rest) = rest.split_at_checked(u32::from_le_bytes(*count) as usize)?;
+    let message = Message {
+        seed: u16::from_le_bytes([low, high]),
+        bytes,
+    };
+    match letter {
+        b'C' => Some((Operation::Whole(message), rest)),
+        b'P' => Some((Operation::Plain(message), rest)),
+        b'L' => Some((Operation::Lent(message), rest)),
+        _ => None,
     }
-    if s.len() < 7 {
-        return 0;
-    }
-    let n = octets::number_at(s, 3, 4) as usize;
-    if s.len() - 7 < n { 0 } else { 7 + n }
 }
 
-fn entry(rows: &[[u16; 256]; 8], row: u8, place: u8) -> u16 {
-    if row > 7 {
-        return 0;
+// Whether s is operations and nothing else.
+fn is_operations(s: &[u8]) -> bool {
+    let mut rest = s;
+    while let Some((_, behind)) = first(rest) {
+        rest = behind;
     }
-    rows[row as usize][place as usize]
+    rest.is_empty()
 }
 
-// One operation.
-fn answer(rows: &[[u16; 256]; 8], op: &[u8]) -> u16
+// A line for each operation.
+fn print_answers(rt: &impl Print, rows: &[[u16; 256]; 8], s: &[u8]) -> io::Result<()>
     requires { Table rows.now }
 {
-    let n = op.len();
-    if n < 7 {
-        return if n < 3 { 0 } else { entry(rows, op[1], op[2]) };
+    let mut rest = s;
+    while let Some((operation, behind)) = first(rest) {
+        println!(rt; "{}", operation.answer(rows))?;
+        rest = behind;
     }
-    let seed = octets::number_at(op, 1, 2) as u16;
-    let letter = op[0];
-    if letter == b'C' {
-        return crc::crc8(seed, &op[7..]);
-    }
-    if letter == b'P' {
-        return crc::crc8_plain(seed, &op[7..]);
-    }
-    crc::by_eight(rows, seed, &op[7..])
-}
-
-// Goes through the operations, and answers each if told to. Whether the input is operations and nothing else.
-fn go_through(
-    rt: &impl Print,
-    rows: &[[u16; 256]; 8],
-    s: &[u8],
-    answering: bool,
-) -> io::Result<bool>
-    requires { Table rows.now }
-{
-    let mut at = 0;
-    while at < s.len() {
-        let n = size(&s[at..]);
-        if n == 0 {
-            return Ok(false);
-        }
-        if answering {
-            let sum = answer(rows, &s[at..at + n]);
-            println!(rt; "{sum}")?;
-        }
-        at += n;
-    }
-    Ok(true)
+    Ok(())
 }
 
 fn main(rt: HostRuntime) -> io::Result<()> {
-    let rows = crc::table();
     let mut input = Vec::new(rt.alloc());
     rt.reader().take(65536).read_to_end(&mut input)?;
-    if (input.len() <= 60000) && go_through(&rt, &rows, &input, false)? {
-        go_through(&rt, &rows, &input, true)?;
-        return Ok(());
+    if input.len() > 60000 || !is_operations(&input) {
+        return println!(rt; "I");
     }
-    println!(rt; "I")
+    print_answers(&rt, &crc::table(), &input)
 }

@@ -10,10 +10,8 @@ pub extern "C" fn crc8_lent(seed: u16, data: &[u8], times: u64) -> u16
 {
     let rows = crc::table();
     let mut crc = seed;
-    let mut left = times;
-    while left > 0 {
+    for _ in 0..times {
         crc = crc::by_eight(&rows, crc, data);
-        left -= 1;
     }
     crc
 }

@@ -1,7 +1,7 @@
 // The driver on a list of inputs, one after another, each behind its length: what it prints for each, and a line `-` behind it.
 #![tactic(auto)]
 
-ghost use Rattle.std.specs.Prelude.{◌≡◌, ◌≤◌, length, IfOk};
+ghost use Rattle.std.specs.Prelude.{◌≡◌, ◌≤◌, length, IfOk, IfSome};
 ghost use Rattle.drive_cases.specs.Cases.{case_size};
 
 use std::io;
@@ -14,38 +14,35 @@ fn buffer() -> [u8; 200000]
 }
 
 // Reads until s is full or the input has ended. Answers how many bytes of s are read.
+// A rule of the project, no heap: `read_to_end` reads into a `Vec`, so this goes on in s where one read gives less than there is room for.
 fn read_full(from: &mut impl Read, s: &mut [u8]) -> io::Result<usize>
     ensures { IfOk result (λ n. n ≤ length s.new) }
 {
     let mut n = 0;
     while n < s.len() {
-        let more = from.read(&mut s[n..])?;
-        if more == 0 {
-            break;
+        match from.read(&mut s[n..])? {
+            0 => break,
+            more => n += more,
         }
-        n += more;
     }
     Ok(n)
 }
 
-// The bytes of the case that begins s, its length included, or 0 where the list is cut short.
-fn size(s: &[u8]) -> usize
-    ensures { (result ≡ case_size s.now) × (result ≤ length s.now) }
+// The bytes of the case that begins s, its length included. None where the list is cut short.
+#[tactic(auto, unfolding(crate::specs::Cases::case_size))]
+fn size(s: &[u8]) -> Option<usize>
+    ensures size { result ≡ case_size s.now }
+    ensures inside { IfSome result (λ n. (4 ≤ n) × (n ≤ length s.now)) }
 {
     octets::counted_size(s, 0)
 }
 
-fn cases(rt: &impl Print, s: &[u8]) -> io::Result<()> {
-    let mut at = 0;
-    while at < s.len() {
-        let n = size(&s[at..]);
-        if n < 4 {
-            return Ok(());
-        }
-        let from = at + 4;
-        at += n;
-        driving::drive(rt, &s[from..at])?;
+fn cases(rt: &impl Print, list: &[u8]) -> io::Result<()> {
+    let mut rest = list;
+    while let Some(n) = size(rest) {
+        driving::drive(rt, &rest[4..n])?;
         println!(rt; "-")?;
+        rest = &rest[n..];
     }
     Ok(())
 }

@@ -1,56 +1,30 @@
 -- What the driver's functions need of their callers and of each turn, over plain values.
-use Prim.Native.Nat.{ℕ, ◌+◌, ◌-◌, ◌≤◌, ◌<◌, min}
-use mathlib.Core.Bool.{true}
+use Rattle.std.specs.Prelude.{Option, Ok, Some, None}
+use Prim.Native.Nat.{ℕ, ◌+◌, ◌-◌, ◌≤◌}
 use mathlib.Core.List.{List}
-use mathlib.Core.Option.{Option, none, some}
-use mathlib.Core.Path.{◌≡◌, refl, sym, ap, ap₂, subst, ◌∙◌}
-use lib.ListN.{length, take, drop, length-drop}
-use lib.Seq.{take_all}
+use mathlib.Core.Option as M
+use mathlib.Core.Path.{◌≡◌, refl, sym, ap₂, subst, ◌∙◌}
+use lib.ListN.{length, take, drop}
 use native.Mathlib.Omega.{arith}
-use borrow.Author.Tests.{lt-ltb, le-ltb}
-use Rattle.streaming.specs.Choose.{when◌then◌else◌}
-use Rattle.streaming.specs.declared.Request.{Request}
 use Rattle.streaming.specs.declared.FlatHeader.{FlatHeader}
 use Rattle.streaming.specs.declared.FlatWalker.{FlatWalker}
 use Rattle.streaming.specs.declared.StreamError.{StreamError}
-use Rattle.streaming.specs.declared.Start.{Start}
-use Rattle.streaming.specs.declared.Started.{Started}
-use Rattle.streaming.specs.declared.Start.TheVariants as start
-use Rattle.streaming.specs.declared.Asked.{Asked}
-use Rattle.streaming.specs.declared.Asked.TheVariants as asked
-use Rattle.streaming.specs.declared.Answer.{Answer}
+use Rattle.streaming.specs.Answers.{Asked, Answer}
 use Rattle.streaming.specs.declared.Fed.{Fed}
 use Rattle.account.specs.Statement.{part}
 use Rattle.account.specs.Runs.{Past}
 use Rattle.rules.specs.Header.{start_refusal}
-use Rattle.header.specs.Start.{start_answer}
-use Rattle.flat.specs.Flat.{start_of, request_of, feed_of}
+use Rattle.flat.specs.Flat.{begun_of, started, start_of, request_of, feed_of}
 use Rattle.flat.proofs.Main.{demand-some}
 use Rattle.form.specs.declared.Cuts.{Cuts}
-use Rattle.form.specs.declared.Form.{Form}
-use Rattle.form.specs.Form.{Cutting, Given, form_of}
-use Rattle.form.proofs.Given.{in_form, given}
-use Rattle.form.proofs.Reading.{form_parts}
+use Rattle.form.specs.Cutting.{Cutting}
 use Rattle.tally.specs.declared.Tally.{Tally}
 use Rattle.tally.specs.History.{heard}
 use Rattle.tally.specs.Tally.{Continues}
-use Rattle.driving.specs.Pieces.{cut_to, next_by}
+use Rattle.driving.specs.Pieces.{next_by}
 use Rattle.driving.specs.Ran.{Walkable}
-use Rattle.driving.specs.declared.pieces.Next.{Next}
-use Rattle.driving.specs.declared.pieces.Next.TheVariants as next
+use Rattle.driving.specs.declared.pieces.Piece.{Piece}
 use Rattle.driving.proofs.Chosen.{Turning, Chosen, chosen, past}
-
--- ---- `choose`
-
-module _ (q : Asked) (r : Request) (n : ℕ) (c : Cuts) (turn : ℕ) (e : q ≡ asked.Demand r) where
-  pub a_piece : (cut len : ℕ) → r.offset < n → cut ≡ cut_to c turn r.len → len ≡ min cut (n - r.offset)
-      → next.Piece r.offset len ≡ next_by q n c turn
-  unfolding when◌then◌else◌
-  a_piece cut len h k l = rw (e, lt-ltb r.offset n h, l, k)
-
-  pub no_piece : n ≤ r.offset → next.Over ≡ next_by q n c turn
-  unfolding when◌then◌else◌
-  no_piece h = rw (e, le-ltb r.offset n h)
 
 -- ---- `take`
 
@@ -64,57 +38,31 @@ counted-part t r s len a b e = subst (λ (x : Answer). Continues t (heard s.fail
 -- ---- `walk`
 
 module _ (h : FlatHeader) (src : List ℕ) (cuts : Cuts) (set : Walkable h src cuts) (s : FlatWalker) (turn : ℕ) (turning : Turning cuts turn)
-    (q : Asked) (asks : q ≡ request_of s) (n : Next) (found : n ≡ next_by q h.length cuts turn) where
+    (q : Asked) (asks : q ≡ request_of s) (n : Option Piece) (found : n ≡ next_by q h.length cuts turn) where
   pub next_found : next_by (request_of s) (length src) cuts turn ≡ n
   next_found = ap₂ (λ (k : ℕ) (x : Asked). next_by x k cuts turn) set.of.whole (sym asks) ∙ sym found
 
-  pub piece_chosen : (offset len : ℕ) → n ≡ next.Piece offset len → Chosen src (request_of s) offset len
-  piece_chosen offset len e =
-      chosen src cuts turn set.cutting turning (request_of s) (length src) offset len (λ r d. demand-some s r d) refl (sym (next_found ∙ e))
-
   -- what is found is a piece, and it is rightly chosen
-  pub piece_next : (offset len : ℕ) → n ≡ next.Piece offset len
-      → (next_by (request_of s) (length src) cuts turn ≡ next.Piece offset len) × Chosen src (request_of s) offset len
-  piece_next offset len e = (next_found ∙ e, piece_chosen offset len e)
+  pub piece_next : (p : Piece) → n ≡ Some p
+      → (next_by (request_of s) (length src) cuts turn ≡ Some p) × Chosen src (request_of s) p.offset p.len
+  piece_next p e = (
+    next_found ∙ e,
+    chosen src cuts turn set.cutting turning (request_of s) (length src) p (λ r d. demand-some s r d) refl (sym (next_found ∙ e)),
+  )
 
-  pub all_past : n ≡ next.Over → Past src (request_of s)
+  pub all_past : n ≡ None → Past src (request_of s)
   all_past e = past src cuts turn set.cutting turning (request_of s) (length src) refl (sym (next_found ∙ e))
 
--- ---- `begin` and `drive`
+-- ---- `begin`
 
-not_refused : (o : Option StreamError) (a : Start) → a ≡ start_answer o → a ≡ start.Begun → o ≡ none
-not_refused none a e k = refl
-not_refused (some x) a e k = absurd (let z : ◌≡◌ {A = ℕ} 0 1 = cc in omega arith)
+-- a walk that has begun has a header that Start takes, and is the walk of that header
+has_begun : (o : M.Option StreamError) {w s : FlatWalker} → Ok s ≡ started o w → (o ≡ M.none) × (s ≡ w)
+has_begun M.none e = (refl, cc)
+has_begun (M.some x) e = absurd (let z : ◌≡◌ {A = ℕ} 0 1 = cc in omega arith)
 
-pub walkable : (h : FlatHeader) (src : List ℕ) (cuts : Cuts) (r : Started) → r ≡ start_of h → r.answer ≡ start.Begun
-    → length src ≡ h.length → length src ≤ 60000 → Cutting cuts → Walkable h src cuts × (r.state ≡ (start_of h).state)
+pub walkable : (h : FlatHeader) (src : List ℕ) (cuts : Cuts) (s : FlatWalker) → Ok s ≡ start_of h
+    → length src ≡ h.length → length src ≤ 60000 → Cutting cuts → Walkable h src cuts × (s ≡ begun_of h)
 unfolding start_of
-walkable h src cuts r e begun whole short cutting = (
-  record {
-    of = record { starts = not_refused (start_refusal h) r.answer (ap (λ (x : Started). x.answer) e) begun; whole = whole };
-    short = short;
-    cutting = cutting;
-  },
-  ap (λ (x : Started). x.state) e,
-)
-
--- what an input in the form hands over
-module _ (s : List ℕ) (f : Form) (e : f ≡ form_of s) (good : f.good ≡ true) where
-  handed : Given s f
-  handed = rw e (given s (ap (λ (x : Form). x.good) (sym e) ∙ good))
-
-  pub source-within : f.source ≤ length s
-  source-within = omega (arith, handed.source)
-
-  pub source-length : length (take (length s - f.source) (drop f.source s)) ≡ f.header.length
-  source-length =
-      let whole = handed.source in
-      ap length (take_all (length s - f.source) (drop f.source s) (simp length-drop (omega arith))) ∙ simp length-drop (omega (arith, whole))
-
-  pub source-short : length (take (length s - f.source) (drop f.source s)) ≤ 60000
-  source-short =
-      let few = (form_parts s (in_form s (ap (λ (x : Form). x.good) (sym e) ∙ good))).few in
-      omega (arith, few, source-length, handed.source)
-
-  pub cuts_given : Cutting f.cuts
-  cuts_given = handed.cuts
+walkable h src cuts s e whole short cutting =
+    let b = has_begun (start_refusal h) e in
+    (record { of = record { starts = b.0; whole = whole }; short = short; cutting = cutting }, b.1)

@@ -1,5 +1,6 @@
 -- Laws of the driver's run: it begins with no call, each piece is one more, every piece brings the walk nearer to the bytes that the rules allow, and
 -- a run that has taken all is a whole one.
+use Rattle.std.specs.Prelude.{Some, None}
 use Prim.Native.Nat.{ℕ, zero, suc, ◌+◌, ◌-◌, ◌/◌, ◌^◌, ◌≤◌, ◌<◌, min}
 use mathlib.Core.Bool.{true}
 use mathlib.Core.List.{List, [], ◌∷◌, ◌++◌, append_assoc, append-nil}
@@ -10,7 +11,7 @@ use native.Mathlib.Nat.{mul-le-mul_right}
 use Rattle.streaming.specs.Choose.{when◌then◌else◌}
 use Rattle.streaming.specs.declared.FlatHeader.{FlatHeader}
 use Rattle.streaming.specs.declared.FlatWalker.{FlatWalker}
-use Rattle.streaming.specs.declared.Ended.{Ended}
+use Rattle.streaming.specs.Answers.{Ended}
 use Rattle.account.specs.Statement.{Call, takes, Walker, HonestCall, Honest, part}
 use Rattle.account.specs.Runs.{run, bytes, Past, Whole}
 use Rattle.rules.specs.Header.{map_size}
@@ -27,7 +28,6 @@ use Rattle.tally.specs.Run.{heard_of, heard_in}
 use Rattle.tally.proofs.Acceptance.{bytes_taken_lem}
 use Rattle.driving.specs.Pieces.{turn_after, next_by}
 use Rattle.driving.specs.Ran.{most_bytes, piece_at, calls_from, driver_calls, Ran, RanWhole, Walkable}
-use Rattle.driving.specs.declared.pieces.Next.TheVariants as next
 use Rattle.driving.proofs.Chosen.{Chosen}
 
 -- ---- one call more behind a list of calls
@@ -55,13 +55,13 @@ heard-more c s (d ∷ ds) = ap (λ (l : List Heard). heard_of s d ∷ l) (heard-
 -- ---- the driver's calls
 
 -- a piece is the next call
-calls_next : (n : ℕ) (src : List ℕ) (c : Cuts) (turn : ℕ) (s : FlatWalker) (offset len : ℕ) → next_by (request_of s) (length src) c turn ≡ next.Piece offset len
+calls_next : (n : ℕ) (src : List ℕ) (c : Cuts) (turn : ℕ) (s : FlatWalker) (offset len : ℕ) → next_by (request_of s) (length src) c turn ≡ Some (record { offset = offset; len = len })
     → calls_from (suc n) src c turn s ≡ piece_at src offset len ∷ calls_from n src c (turn_after c turn) (feed_of s offset (part src offset len)).state
 unfolding calls_from
 calls_next n src c turn s offset len e = rw e
 
 -- where there is none, there are no more calls
-calls-over : (n : ℕ) (src : List ℕ) (c : Cuts) (turn : ℕ) (s : FlatWalker) → next_by (request_of s) (length src) c turn ≡ next.Over
+calls-over : (n : ℕ) (src : List ℕ) (c : Cuts) (turn : ℕ) (s : FlatWalker) → next_by (request_of s) (length src) c turn ≡ None
     → calls_from n src c turn s ≡ []
 unfolding calls_from
 calls-over zero src c turn s e = refl
@@ -106,7 +106,7 @@ module _ (h : FlatHeader) (src : List ℕ) (cuts : Cuts) (set : Walkable h src c
   -- ---- one piece more: the source's bytes at its place, taken by the walk
 
   module _ (turn : ℕ) (s : FlatWalker) (t : Tally) (ran : Ran h src cuts turn s t) (offset len : ℕ)
-      (next-is : next_by (request_of s) (length src) cuts turn ≡ next.Piece offset len) (c : Chosen src (request_of s) offset len)
+      (next-is : next_by (request_of s) (length src) cuts turn ≡ Some (record { offset = offset; len = len })) (c : Chosen src (request_of s) offset len)
       (turn' : ℕ) (s' : FlatWalker) (t' : Tally) (turns : turn' ≡ turn_after cuts turn) (state : s' ≡ (feed_of s offset (part src offset len)).state)
       (counted : Continues t (heard s.failure (feed_of s offset (part src offset len)).answer len) t') where
     call : Call
@@ -171,7 +171,7 @@ module _ (h : FlatHeader) (src : List ℕ) (cuts : Cuts) (set : Walkable h src c
 
   -- ---- a run that has taken all that the source has is a whole one
 
-  pub ran_whole : (turn : ℕ) (s : FlatWalker) (t : Tally) (e : Ended) → Ran h src cuts turn s t → next_by (request_of s) (length src) cuts turn ≡ next.Over
+  pub ran_whole : (turn : ℕ) (s : FlatWalker) (t : Tally) (e : Ended) → Ran h src cuts turn s t → next_by (request_of s) (length src) cuts turn ≡ None
       → Past src (request_of s) → e ≡ end_of s → RanWhole h src cuts e t
   ran_whole turn s t e ran over past ends =
       let cs = ran.calls in

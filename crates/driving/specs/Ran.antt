@@ -1,8 +1,8 @@
 -- What the driver's walk is: a run over the very source that it was given, and in the end a whole one.
-use Rattle.std.specs.Prelude.{ℕ, zero, suc, ◌+◌, ◌*◌, ◌/◌, ◌≤◌, List, [], ◌∷◌, ◌++◌, ◌≡◌, length}
+use Rattle.std.specs.Prelude.{ℕ, zero, suc, ◌+◌, ◌*◌, ◌/◌, ◌≤◌, List, [], ◌∷◌, ◌++◌, ◌≡◌, length, Option, Some, None}
 use Rattle.streaming.specs.declared.FlatHeader.{FlatHeader}
 use Rattle.streaming.specs.declared.FlatWalker.{FlatWalker}
-use Rattle.streaming.specs.declared.Ended.{Ended}
+use Rattle.streaming.specs.Answers.{Ended}
 use Rattle.account.specs.Account.{ending_of}
 use Rattle.account.specs.Statement.{Call, Honest, ended_by, part}
 use Rattle.account.specs.Runs.{run, bytes, Whole}
@@ -11,14 +11,13 @@ use Rattle.rules.specs.Source.{Of}
 use Rattle.rules.specs.Rules.{rules}
 use Rattle.flat.specs.Flat.{request_of, feed_of}
 use Rattle.form.specs.declared.Cuts.{Cuts}
-use Rattle.form.specs.Form.{Cutting}
+use Rattle.form.specs.Cutting.{Cutting}
 use Rattle.tally.specs.declared.Tally.{Tally}
 use Rattle.tally.specs.Tally.{tally_of}
 use Rattle.tally.specs.Run.{heard_in}
 use Rattle.stands.proofs.Fitness.{begun, flat_walker}
 use Rattle.driving.specs.Pieces.{turn_after, next_by}
-use Rattle.driving.specs.declared.pieces.Next.{Next}
-use Rattle.driving.specs.declared.pieces.Next.TheVariants as next
+use Rattle.driving.specs.declared.pieces.Piece.{Piece}
 
 -- the most bytes that a walk takes: both sections once, the map twice, and the source once for every two bytes of the map
 abbrev pub most_bytes : FlatHeader → ℕ
@@ -29,9 +28,9 @@ abbrev pub piece_at : List ℕ → (offset len : ℕ) → Call
 piece_at src offset len = record { offset = offset; piece = part src offset len }
 
 -- what follows a piece, if there is one
-abbrev pub if_piece : Next → ((offset len : ℕ) → List Call) → List Call
-if_piece (next.Piece offset len) more = more offset len
-if_piece next.Over more = []
+abbrev pub if_piece : Option Piece → ((offset len : ℕ) → List Call) → List Call
+if_piece (Some piece) more = more piece.offset piece.len
+if_piece None more = []
 
 -- the calls that the driver makes from a state on, piece by piece; at most so many
 unfoldable pub calls_from : (most : ℕ) → List ℕ → Cuts → (turn : ℕ) → FlatWalker → List Call

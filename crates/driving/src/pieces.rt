@@ -1,56 +1,58 @@
 // Which piece the driver brings next: the least of cut, demand and what the source has.
-ghost use Rattle.std.specs.Prelude.{◌≡◌, ◌<◌};
+ghost use Rattle.std.specs.Prelude.{◌≡◌, ◌<◌, length};
 ghost use Rattle.driving.specs.Pieces.{cut_to, turn_after, next_by};
 
 use form::Cuts;
-use octets::least;
-use streaming::Asked;
+use streaming::{Request, StreamError};
 
-// The next piece, if the walk can be given one.
+// A piece of the source, by its place and its length.
 #[derive(Clone, Copy)]
-pub enum Next {
-    Piece { offset: u64, len: u64 },
-    Over,
+pub struct Piece {
+    pub offset: u64,
+    pub len: u64,
 }
 
-fn cut_to(cuts: Cuts, turn: usize, demand: u64) -> u64
-    requires { turn < 64 }
-    ensures { result ≡ cut_to cuts turn demand }
+#[tactic(auto, unfolding(crate::specs::Pieces::cut_to))]
+fn cut_to(cuts: &Cuts, turn: usize, demand: u64) -> u64
+    requires { 0 < length cuts.now → turn < length cuts.now }
+    ensures { result ≡ cut_to cuts.now turn demand }
 {
-    if cuts.count == 0 {
-        return demand;
+    match cuts.get(turn) {
+        Some(size) => u64::from(size).min(demand),
+        None => demand,
     }
-    least(cuts.sizes[turn] as u64, demand)
 }
 
 // Behind the last cut comes the first.
-pub fn turn_after(cuts: Cuts, turn: usize) -> usize
-    requires { turn < 64 }
-    ensures { result ≡ turn_after cuts turn }
+#[tactic(auto, unfolding(crate::specs::Pieces::turn_after))]
+pub fn turn_after(cuts: &Cuts, turn: usize) -> usize
+    ensures { result ≡ turn_after cuts.now turn }
 {
-    if turn + 1 < cuts.count {
-        return turn + 1;
+    if turn < cuts.len().saturating_sub(1) {
+        turn + 1
+    } else {
+        0
     }
-    0
 }
 
-// By what is asked for, over a source of so many bytes.
-pub fn choose(asked: Asked, bytes: u64, cuts: Cuts, turn: usize) -> Next
-    requires { turn < 64 }
-    ensures { result ≡ next_by asked bytes cuts turn }
+// By what is asked for, over a source of so many bytes: none where no byte is asked for, or the source has none at the place.
+pub fn choose(
+    asked: Result<Option<Request>, StreamError>,
+    bytes: u64,
+    cuts: &Cuts,
+    turn: usize,
+) -> Option<Piece>
+    requires { 0 < length cuts.now → turn < length cuts.now }
+    ensures { result ≡ next_by asked bytes cuts.now turn }
 {
-    match asked {
-        Asked::Demand(r) => {
-            if r.offset < bytes {
-                let len = cut_to(cuts, turn, r.len);
-                return Next::Piece {
-                    offset: r.offset,
-                    len: least(len, bytes - r.offset),
-                };
-            }
-            Next::Over
-        }
-        Asked::Nothing => Next::Over,
-        Asked::Refused(e) => Next::Over,
+    let Ok(Some(r)) = asked else {
+        return None;
+    };
+    if bytes <= r.offset {
+        return None;
     }
+    Some(Piece {
+        offset: r.offset,
+        len: cut_to(cuts, turn, r.len).min(bytes - r.offset),
+    })
 }

@@ -1,5 +1,6 @@
 -- Stage Entry: an entry of the map is asked for byte by byte, and what a byte of it does.
-use Rattle.std.specs.Prelude.{ℕ, ◌+◌, ◌*◌, ◌-◌, ◌/◌, ◌%◌, ◌^◌, Bool, ◌&&◌, not, ltb, leb, eqb}
+use Rattle.std.specs.Prelude.{ℕ, ◌+◌, ◌*◌, ◌-◌, ◌/◌, ◌%◌, ◌^◌, Bool, ◌&&◌, not, ltb, leb, eqb, Some, None}
+use Rattle.std.specs.Prelude as code
 use Rattle.std.proofs.Math.Option.{Option, none, some}
 use Rattle.std.specs.Int.Bits.{bit_or}
 use Rattle.streaming.specs.Choose.{when◌then◌else◌}
@@ -11,8 +12,6 @@ use Rattle.streaming.specs.declared.MapCursor.{MapCursor}
 use Rattle.streaming.specs.declared.FlatWalker.{FlatWalker}
 use Rattle.streaming.specs.declared.Fed.{Fed}
 use Rattle.object.specs.Object.{enter_object}
-use Rattle.entry.specs.declared.Moved.{Moved}
-use Rattle.entry.specs.declared.Moved.TheVariants as moved
 
 unfoldable pub request_entry : FlatWalker → Request
 request_entry s = record { offset = s.map.at; len = 1 }
@@ -33,9 +32,9 @@ moved_by back location value =
     else none
 
 -- the same as the code answers it
-abbrev pub moved_to : Option ℕ → Moved
-moved_to none = moved.Nowhere
-moved_to (some location) = moved.To location
+abbrev pub moved_to : Option ℕ → code.Option ℕ
+moved_to none = None
+moved_to (some location) = Some location
 
 module _ (s : FlatWalker) where
   -- the entry is refused at its next byte's place

@@ -1,4 +1,5 @@
 -- What is demanded is never 0 bytes, and never lies outside: a section's in its locator, a chunk's and an entry's in the map, and an object's in the source.
+use Rattle.std.specs.Prelude.{Ok, Some}
 use Prim.Native.Nat.{ℕ, ◌+◌, ◌≤◌, ◌<◌}
 use mathlib.Core.Bool.{Bool, true, false}
 use mathlib.Core.Option.{Option, none, some}
@@ -10,7 +11,7 @@ use Rattle.streaming.specs.Choose.{when◌then◌else◌}
 use Rattle.streaming.specs.Numbers.{part_number}
 use Rattle.streaming.specs.declared.StreamError.{StreamError}
 use Rattle.streaming.specs.declared.Request.{Request}
-use Rattle.streaming.specs.declared.Asked.TheVariants as asked
+use Rattle.streaming.specs.Answers.{Asked}
 use Rattle.streaming.specs.declared.Stage.{Stage}
 use Rattle.streaming.specs.declared.Stage.TheVariants as stage
 use Rattle.streaming.specs.declared.FlatWalker.{FlatWalker}
@@ -158,10 +159,10 @@ module _ (s : FlatWalker) where
       record { some = omega arith; place = λ other. let inside = object-inside s f other in omega arith }
 
 -- a demand is the stage's own
-the_same : {a r : Request} → asked.Demand a ≡ asked.Demand r → a ≡ r
+the_same : {a r : Request} → ◌≡◌ {A = Asked} (Ok (Some a)) (Ok (Some r)) → a ≡ r
 the_same q = cc
 
-by_stage : (g : Stage) (s : FlatWalker) (r : Request) → fit_at g s ≡ true → request_at g s ≡ asked.Demand r → Proper g s r
+by_stage : (g : Stage) (s : FlatWalker) (r : Request) → fit_at g s ≡ true → request_at g s ≡ Ok (Some r) → Proper g s r
 by_stage stage.Vars s r fit q =
     let p = section_proper s fit in
     subst (λ (x : Request). Proper stage.Vars s x) (the_same q) (record { some = p.0; place = p.1 })
@@ -175,7 +176,7 @@ by_stage stage.Done s r fit q = apart (cc)
 
 -- ---- every demand
 
-pub demand_proper : (s : FlatWalker) (r : Request) → request_of s ≡ asked.Demand r → Proper s.stage s r
+pub demand_proper : (s : FlatWalker) (r : Request) → request_of s ≡ Ok (Some r) → Proper s.stage s r
 demand_proper s r q = let d = demanded s r q in by_stage s.stage s r (fit_stage s d.fit) d.asks
 
 -- ---- and lies in the source
@@ -199,7 +200,7 @@ in_source stage.Entry s r e h other p = omega (arith, h.map)
 in_source stage.Object s r e h other p = p (other refl)
 in_source stage.Done s r e h other p = absurd p
 
-pub demand_in_source : (s : FlatWalker) (r : Request) → request_of s ≡ asked.Demand r → (s.stage ≡ stage.Object → SecondWord s → ⊥)
+pub demand_in_source : (s : FlatWalker) (r : Request) → request_of s ≡ Ok (Some r) → (s.stage ≡ stage.Object → SecondWord s → ⊥)
     → r.offset + r.len ≤ s.header.length
 demand_in_source s r q other =
     let taken = fit_taken s (demanded s r q).fit in

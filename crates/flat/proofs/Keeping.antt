@@ -1,6 +1,7 @@
 -- What it is for a call to keep fitness: where the next state holds no failure, it is fit. Laws that every stage uses.
+use Rattle.std.proofs.lemmas.Bool.{and_from}
 use Prim.Native.Nat.{ℕ, ◌≤◌, ◌<◌}
-use mathlib.Core.Bool.{Bool, true, false, ◌&&◌, false≢true}
+use mathlib.Core.Bool.{true, false, false≢true}
 use mathlib.Core.Path.{◌≡◌}
 use native.Mathlib.Omega.{arith}
 use lib.Dec.{eqb}
@@ -23,12 +24,8 @@ Taken s = is_taken (start_refusal s.header) ≡ true
 pub keeps_failing : (s : FlatWalker) (f : Fault) → Keeps (failing s f)
 keeps_failing s f e = absurd (false≢true e)
 
-pub and_both : (a b : Bool) → a ≡ true → b ≡ true → (a && b) ≡ true
-and_both true b e f = f
-and_both false b e f = e
-
 -- what `search` is handed where a conjunction of tests is to hold: its parts, and each part from its fact
-pub ruleset made = (rules, and_both, lt-ltb, le-leb, eq-eqb)
+pub ruleset made = (rules, and_from, lt-ltb, le-leb, eq-eqb)
 
 -- a piece that does not reach the end stays below it
 pub below : (a b : ℕ) → a ≤ b → eqb a b ≡ false → a < b
@@ -37,4 +34,4 @@ below a b h e = let other : a ≡ b → ⊥ = eqb-false a b e in omega arith
 -- of a header that Start takes: the stage's own test is enough
 pub keeps_at : (t : FlatWalker) → Taken t → fit_at t.stage t ≡ true → Keeps t
 unfolding fit_of
-keeps_at t h f e = and_both _ _ h f
+keeps_at t h f e = and_from _ _ h f

@@ -1,4 +1,5 @@
 -- Fitness is kept by every accepted piece, by every call, and by every list of calls from Start on.
+use Rattle.std.specs.Prelude.{Ok, Err, Some, None}
 use Prim.Native.Nat.{ℕ, ◌≤◌, ◌<◌}
 use mathlib.Core.Bool.{true}
 use mathlib.Core.List.{List, [], ◌∷◌}
@@ -9,8 +10,7 @@ use lib.ListN.{length, get_or}
 use Rattle.octets.specs.Octets.{same}
 use Rattle.streaming.specs.declared.FlatHeader.{FlatHeader}
 use Rattle.streaming.specs.declared.Request.{Request}
-use Rattle.streaming.specs.declared.Asked.{Asked}
-use Rattle.streaming.specs.declared.Asked.TheVariants as asked
+use Rattle.streaming.specs.Answers.{Asked}
 use Rattle.streaming.specs.declared.Stage.{Stage}
 use Rattle.streaming.specs.declared.Stage.TheVariants as stage
 use Rattle.streaming.specs.declared.FlatWalker.{FlatWalker}
@@ -22,7 +22,7 @@ use Rattle.rules.specs.Header.{start_refusal, map_start}
 use Rattle.chunk.specs.Fit.{no_object, no_entry}
 use Rattle.section.specs.Section.{enter_next}
 use Rattle.flat.specs.Fit.{is_taken, fit_of, fit_at}
-use Rattle.flat.specs.Flat.{blank, start_of, request_at, request_of, feed_at, offered, feed_of}
+use Rattle.flat.specs.Flat.{blank, begun_of, request_at, request_of, feed_at, offered, feed_of}
 use Rattle.flat.proofs.Demanded.{demanded}
 use Rattle.flat.proofs.Keeping.{Keeps, Taken}
 use Rattle.flat.proofs.KeepingSection.{fit_section_untouched, keeps_enter_section, keeps_section}
@@ -42,9 +42,9 @@ fit_stage s e = search and_right
 
 -- how many bytes are demanded
 abbrev len_in : Asked → ℕ
-len_in (asked.Demand r) = r.len
-len_in asked.Nothing = 0
-len_in (asked.Refused e) = 0
+len_in (Ok (Some r)) = r.len
+len_in (Ok None) = 0
+len_in (Err e) = 0
 
 module _ (s : FlatWalker) (piece : List ℕ) (fit : fit_of s ≡ true) (some : 0 < length piece) where
   taken : Taken s
@@ -74,7 +74,7 @@ module _ (s : FlatWalker) (piece : List ℕ) (fit : fit_of s ≡ true) (some : 0
   by_stage stage.Object e fits = keeps_object s taken (own stage.Object e) (at stage.Object e) piece some fits
   by_stage stage.Done e fits = λ k. fit
 
-  pub keeps : (r : Request) → request_at s.stage s ≡ asked.Demand r → length piece ≤ r.len → Keeps (feed_at s.stage s piece).state
+  pub keeps : (r : Request) → request_at s.stage s ≡ Ok (Some r) → length piece ≤ r.len → Keeps (feed_at s.stage s piece).state
   keeps r asks fits = by_stage s.stage refl (rw asks fits)
 
 -- ---- a call
@@ -84,9 +84,9 @@ unfolding feed_of
 keeps_feed s offset piece kept = by_asked (request_of s) refl
   where
     by_asked : (q : Asked) → request_of s ≡ q → Keeps (offered q s offset piece).state
-    by_asked asked.Nothing e = kept
-    by_asked (asked.Refused x) e = kept
-    by_asked (asked.Demand r) e =
+    by_asked (Ok None) e = kept
+    by_asked (Err x) e = kept
+    by_asked (Ok (Some r)) e =
         let d = demanded s r e in
         in_both (λ (f : Fed). Keeps f.state) _
         (λ h. in_both (λ (f : Fed). Keeps f.state) _
@@ -99,8 +99,8 @@ keeps_feed s offset piece kept = by_asked (request_of s) refl
 
 -- ---- from Start on
 
-pub keeps_start : (h : FlatHeader) → start_refusal h ≡ none → Keeps (start_of h).state
-unfolding start_of no_object no_entry same
+pub keeps_start : (h : FlatHeader) → start_refusal h ≡ none → Keeps (begun_of h)
+unfolding begun_of no_object no_entry same
 keeps_start h starts = keeps_enter_section (blank h) stage.Vars (ap is_taken starts) (λ t. refl) refl
 
 -- the state behind a list of calls
@@ -112,5 +112,5 @@ pub keeps_walked : (cs : List Call) (s : FlatWalker) → Keeps s → Keeps (walk
 keeps_walked [] s kept = kept
 keeps_walked (c ∷ cs) s kept = keeps_walked cs (feed_of s c.offset c.piece).state (keeps_feed s c.offset c.piece kept)
 
-pub keeps_run : (h : FlatHeader) (cs : List Call) → start_refusal h ≡ none → Keeps (walked (start_of h).state cs)
-keeps_run h cs starts = keeps_walked cs (start_of h).state (keeps_start h starts)
+pub keeps_run : (h : FlatHeader) (cs : List Call) → start_refusal h ≡ none → Keeps (walked (begun_of h) cs)
+keeps_run h cs starts = keeps_walked cs (begun_of h) (keeps_start h starts)

@@ -1,4 +1,5 @@
 -- A piece of a chunk keeps fitness.
+use Rattle.std.proofs.lemmas.Bool.{and_from}
 use Prim.Native.Nat.{ℕ, ◌+◌, ◌-◌, ◌≤◌, ◌<◌}
 use mathlib.Core.Bool.{Bool, true, false}
 use mathlib.Core.List.{List}
@@ -23,13 +24,13 @@ use Rattle.chunk.specs.Fit.{no_object, no_entry, chunk_done, fit_chunk, in_chunk
 use Rattle.chunk.proofs.Fitness.{fit_chunk_shows}
 use Rattle.entry.specs.Fit.{fit_entry, at_byte}
 use Rattle.flat.specs.Fit.{fit_at}
-use Rattle.flat.proofs.Keeping.{Keeps, Taken, keeps_failing, keeps_at, and_both, below, made}
+use Rattle.flat.proofs.Keeping.{Keeps, Taken, keeps_failing, keeps_at, below, made}
 
 -- ---- entering one
 
 entered : (s : FlatWalker) (chunk : ℕ) → map_start s.header ≤ chunk → leb (chunk + 4) (map_end s.header) ≡ true → fit_chunk (chunk_at s chunk) ≡ true
 unfolding fit_chunk no_object no_entry chunk_done same when◌then◌else◌
-entered s chunk low e = and_both _ _ (and_both _ _ (le-leb _ _ low) e) refl
+entered s chunk low e = and_from _ _ (and_from _ _ (le-leb _ _ low) e) refl
 
 pub keeps_enter_chunk : (s : FlatWalker) (chunk : ℕ) → Taken s → map_start s.header ≤ chunk → Keeps (enter_chunk s chunk)
 unfolding enter_chunk
@@ -47,7 +48,7 @@ module _ (s : FlatWalker) (taken : Taken s) (own : (t : FlatWalker) → fit_at s
   moved : (done size crc : ℕ) (field : List ℕ) → chunk_done (map_end s.header) s.map.chunk done size ≡ true
       → fit_chunk (in_unit s s.stage done size crc field) ≡ true
   unfolding fit_chunk no_object
-  moved done size crc field e = search (and_both, and_left)
+  moved done size crc field e = search (and_from, and_left)
 
   -- the chunk stays in hand
   stays : (done size crc : ℕ) (field : List ℕ) → chunk_done (map_end s.header) s.map.chunk done size ≡ true

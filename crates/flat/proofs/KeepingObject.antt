@@ -1,4 +1,5 @@
 -- A piece of an object keeps fitness.
+use Rattle.std.proofs.lemmas.Bool.{and_from}
 use Prim.Native.Nat.{ℕ, zero, suc, ◌+◌, ◌*◌, ◌-◌, ◌%◌, ◌^◌, ◌≤◌, ◌<◌}
 use mathlib.Core.Bool.{Bool, true, false}
 use mathlib.Core.List.{List}
@@ -21,7 +22,7 @@ use Rattle.object.specs.Object.{object_end, request_object, settle_object_size, 
 use Rattle.object.specs.Fit.{behind_entry, object_done, object_consistent, size_in_words, fit_object, FitObject}
 use Rattle.flat.specs.Fit.{fit_at}
 use Rattle.object.proofs.Fitness.{fit_object_shows}
-use Rattle.flat.proofs.Keeping.{Keeps, Taken, keeps_failing, keeps_at, and_both, below, made}
+use Rattle.flat.proofs.Keeping.{Keeps, Taken, keeps_failing, keeps_at, below, made}
 use Rattle.flat.proofs.KeepingVisit.{Led, keeps_leave_object}
 
 -- one word more of the size
@@ -45,7 +46,7 @@ module _ (s : FlatWalker) (taken : Taken s) (own : (t : FlatWalker) → fit_at s
   moved : (done size crc : ℕ) (field head : List ℕ) (ms_len words : ℕ) → object_done (placed done size crc field head ms_len words) ≡ true
       → size < 2 ^ (15 * words) → fit_object (placed done size crc field head ms_len words) ≡ true
   unfolding fit_object object_consistent behind_entry size_in_words
-  moved done size crc field head ms_len words e k = search (and_both, and_left, and_right, lt-ltb)
+  moved done size crc field head ms_len words e k = search (and_from, and_left, and_right, lt-ltb)
 
   -- in the size words
   in_words : (done size crc : ℕ) (field : List ℕ) (words : ℕ) → words ≤ 1 → 2 * words ≤ done → done < 2 * words + 2 → size < 2 ^ (15 * words)

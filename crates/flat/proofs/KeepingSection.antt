@@ -1,4 +1,5 @@
 -- A piece of a section keeps fitness.
+use Rattle.std.proofs.lemmas.Bool.{and_from}
 use Prim.Native.Nat.{ℕ, ◌+◌, ◌-◌, ◌≤◌, ◌<◌}
 use mathlib.Core.Bool.{Bool, true, false, ◌&&◌}
 use mathlib.Core.List.{List}
@@ -23,7 +24,7 @@ use Rattle.section.specs.Section.{part_of, section_of, enter_section, enter_next
 use Rattle.section.specs.Fit.{section_done, fit_section, FitSection}
 use Rattle.flat.specs.Fit.{fit_at}
 use Rattle.section.proofs.Fitness.{fit_section_shows}
-use Rattle.flat.proofs.Keeping.{Keeps, Taken, keeps_failing, keeps_at, and_both, below}
+use Rattle.flat.proofs.Keeping.{Keeps, Taken, keeps_failing, keeps_at, below}
 
 -- the map and the objects are untouched
 abbrev pub untouched : FlatWalker → Bool
@@ -37,7 +38,7 @@ module _ (s : FlatWalker) (g : Stage) (taken : Taken s) (own : (t : FlatWalker) 
   entered e =
       let framed : frame ≤ (locator_of s.header (part_number (part_of g))).size = leb-true _ _ e in
       let inside : 0 < (locator_of s.header (part_number (part_of g))).size = omega arith in
-      search (and_both, lt-ltb)
+      search (and_from, lt-ltb)
 
   pub keeps_enter_section : Keeps (enter_section s g)
   unfolding enter_section
@@ -59,7 +60,7 @@ module _ (s : FlatWalker) (taken : Taken s) (own : (t : FlatWalker) → fit_at s
   moved : (done size crc : ℕ) (field : List ℕ) → ltb done (section_of s).size ≡ true
       → section_done (section_of s).size done size ≡ true → fit_section (in_unit s s.stage done size crc field) ≡ true
   unfolding fit_section no_object
-  moved done size crc field e k = search (and_both, and_left, and_right)
+  moved done size crc field e k = search (and_from, and_left, and_right)
 
   -- the section stays in hand, before its size is whole
   before : (done crc : ℕ) (field : List ℕ) → s.done < 20 → done < 20 → Keeps (in_unit s s.stage done s.size crc field)

@@ -1,5 +1,4 @@
 pub mod Calls
-pub mod Taking
 pub mod Keeping
 pub mod KeepingChunk
 pub mod KeepingSection

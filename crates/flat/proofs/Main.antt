@@ -1,4 +1,5 @@
 -- The file to open first: the laws of the walk by calls, each in full, and where its proof stands.
+use Rattle.std.specs.Prelude.{Ok, Err, Some}
 use Prim.Native.Nat.{ℕ, ◌+◌, ◌≤◌, ◌<◌}
 use mathlib.Core.Bool.{true, false}
 use mathlib.Core.List.{List}
@@ -11,17 +12,13 @@ use Rattle.streaming.specs.declared.Request.{Request}
 use Rattle.streaming.specs.declared.Fault.{Fault}
 use Rattle.streaming.specs.declared.StreamError.{StreamError}
 use Rattle.streaming.specs.declared.StreamError.TheVariants as error
-use Rattle.streaming.specs.declared.Asked.TheVariants as asked
-use Rattle.streaming.specs.declared.Ended.TheVariants as ended
-use Rattle.streaming.specs.declared.Answer.TheVariants as answer
 use Rattle.streaming.specs.declared.Stage.TheVariants as stage
-use Rattle.streaming.specs.declared.Failure.TheVariants as failure
 use Rattle.streaming.specs.declared.FlatWalker.{FlatWalker}
 use Rattle.account.specs.Statement.{Call}
 use Rattle.rules.specs.Header.{start_refusal}
 use Rattle.object.specs.Fit.{size_in_words}
 use Rattle.flat.specs.Fit.{is_sound, fit_of, consistent_of}
-use Rattle.flat.specs.Flat.{start_of, request_at, request_of, end_of, feed_at, feed_of}
+use Rattle.flat.specs.Flat.{begun_of, request_at, request_of, end_of, feed_at, feed_of}
 use Rattle.flat.proofs.Keeping.{Keeps}
 use Rattle.flat.proofs.KeepingCalls.{walked}
 use Rattle.flat.proofs.KeepingCalls as K
@@ -34,7 +31,7 @@ use Rattle.flat.proofs.Demands as D
 -- ---- fitness: `Keeps t` says that t is fit, unless it holds a failure
 
 -- A piece that a fit state asks for keeps fitness, in every stage.
-pub piece_keeps : (s : FlatWalker) (piece : List ℕ) (r : Request) → fit_of s ≡ true → request_at s.stage s ≡ asked.Demand r
+pub piece_keeps : (s : FlatWalker) (piece : List ℕ) (r : Request) → fit_of s ≡ true → request_at s.stage s ≡ Ok (Some r)
     → 0 < length piece → length piece ≤ r.len → Keeps (feed_at s.stage s piece).state
 piece_keeps s piece r fit asks some most = K.keeps s piece fit some r asks most
 
@@ -44,25 +41,25 @@ call_keeps = K.keeps_feed
 
 -- From a header that Start takes, every list of calls leads to a state that is fit, unless it holds a failure.
 module _ (h : FlatHeader) (starts : start_refusal h ≡ none) (cs : List Call) where
-  pub run_fit : is_sound (walked (start_of h).state cs).failure ≡ true → fit_of (walked (start_of h).state cs) ≡ true
+  pub run_fit : is_sound (walked (begun_of h) cs).failure ≡ true → fit_of (walked (begun_of h) cs) ≡ true
   run_fit = K.keeps_run h cs starts
 
   -- So refusal 19 is never answered in a run, neither by `request`
-  pub request_never_bad : request_of (walked (start_of h).state cs) ≡ asked.Refused error.BadState → ⊥
-  request_never_bad = L.request_never_bad (walked (start_of h).state cs) (K.keeps_run h cs starts)
+  pub request_never_bad : request_of (walked (begun_of h) cs) ≡ Err error.BadState → ⊥
+  request_never_bad = L.request_never_bad (walked (begun_of h) cs) (K.keeps_run h cs starts)
 
   -- nor by `feed`.
-  pub feed_never_bad : (offset : ℕ) (piece : List ℕ) → (feed_of (walked (start_of h).state cs) offset piece).answer ≡ answer.Refused error.BadState → ⊥
-  feed_never_bad = L.feed_never_bad (walked (start_of h).state cs) (K.keeps_run h cs starts)
+  pub feed_never_bad : (offset : ℕ) (piece : List ℕ) → (feed_of (walked (begun_of h) cs) offset piece).answer ≡ Err error.BadState → ⊥
+  feed_never_bad = L.feed_never_bad (walked (begun_of h) cs) (K.keeps_run h cs starts)
 
 -- ---- faults and refusals
 
 -- After a fault every call repeats it, and the state stays as it is.
-module _ (s : FlatWalker) (f : Fault) (held : s.failure ≡ failure.Held f) where
-  pub request-repeats : request_of s ≡ asked.Refused (error.Fault f)
+module _ (s : FlatWalker) (f : Fault) (held : s.failure ≡ Some f) where
+  pub request-repeats : request_of s ≡ Err (error.Fault f)
   request-repeats = L.held-request s f held
 
-  pub end_repeats : end_of s ≡ ended.Refused (error.Fault f)
+  pub end_repeats : end_of s ≡ Err (error.Fault f)
   end_repeats = L.held_end s f held
 
   pub feed-repeats : (offset : ℕ) (piece : List ℕ) → feed_of s offset piece ≡ refused_by (error.Fault f) s
@@ -70,11 +67,11 @@ module _ (s : FlatWalker) (f : Fault) (held : s.failure ≡ failure.Held f) wher
 
 module _ (s : FlatWalker) (offset : ℕ) (piece : List ℕ) where
   -- A fault that is answered is held from then on.
-  pub fault_held : (f : Fault) → (feed_of s offset piece).answer ≡ answer.Refused (error.Fault f) → (feed_of s offset piece).state.failure ≡ failure.Held f
+  pub fault_held : (f : Fault) → (feed_of s offset piece).answer ≡ Err (error.Fault f) → (feed_of s offset piece).state.failure ≡ Some f
   fault_held = L.fault_held s offset piece
 
   -- Any other refusal leaves the state as it was.
-  pub refused_stays : (e : StreamError) → (feed_of s offset piece).answer ≡ answer.Refused e → ((f : Fault) → e ≡ error.Fault f → ⊥)
+  pub refused_stays : (e : StreamError) → (feed_of s offset piece).answer ≡ Err e → ((f : Fault) → e ≡ error.Fault f → ⊥)
       → (feed_of s offset piece).state ≡ s
   refused_stays = L.refused_stays s offset piece
 
@@ -84,7 +81,7 @@ module _ (s : FlatWalker) (offset : ℕ) (piece : List ℕ) where
 
 -- ---- demands, in any state at all
 
-module _ (s : FlatWalker) (r : Request) (asks : request_of s ≡ asked.Demand r) where
+module _ (s : FlatWalker) (r : Request) (asks : request_of s ≡ Ok (Some r)) where
   -- What is demanded is never 0 bytes.
   pub demand-some : 0 < r.len
   demand-some = (D.demand_proper s r asks).some

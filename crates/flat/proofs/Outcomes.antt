@@ -1,4 +1,5 @@
 -- What an accepted piece leaves as it was, and how it may be refused: the header stays, and only a fault refuses it, which is held.
+use Rattle.std.specs.Prelude.{Ok, Err, Some}
 use Prim.Native.Nat.{ℕ}
 use mathlib.Core.Bool.{Bool}
 use mathlib.Core.List.{List}
@@ -11,11 +12,9 @@ use Rattle.streaming.specs.declared.FlatHeader.{FlatHeader}
 use Rattle.streaming.specs.declared.Step.{Step}
 use Rattle.streaming.specs.declared.Fault.{Fault}
 use Rattle.streaming.specs.declared.StreamError.TheVariants as error
-use Rattle.streaming.specs.declared.Answer.{Answer}
-use Rattle.streaming.specs.declared.Answer.TheVariants as answer
+use Rattle.streaming.specs.Answers.{Answer}
 use Rattle.streaming.specs.declared.Stage.{Stage}
 use Rattle.streaming.specs.declared.Stage.TheVariants as stage
-use Rattle.streaming.specs.declared.Failure.TheVariants as failure
 use Rattle.streaming.specs.declared.FlatWalker.{FlatWalker}
 use Rattle.streaming.specs.declared.Fed.{Fed}
 use Rattle.streaming.proofs.Choose.{in_both}
@@ -29,8 +28,8 @@ use Rattle.flat.specs.Flat.{feed_at}
 
 -- a step, or a fault that the next state holds
 abbrev pub StepOrFault : Answer → FlatWalker → Type 0
-StepOrFault (answer.Step x) t = Unit {0}
-StepOrFault (answer.Refused e) t = (f : Fault) × (e ≡ error.Fault f) × (t.failure ≡ failure.Held f)
+StepOrFault (Ok x) t = Unit {0}
+StepOrFault (Err e) t = (f : Fault) × (e ≡ error.Fault f) × (t.failure ≡ Some f)
 
 -- the outcome of a piece, under a header
 pub record Outcome (h : FlatHeader) (r : Fed) : Type 0 where

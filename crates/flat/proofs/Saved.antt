@@ -1,5 +1,7 @@
 -- The Rust's own test of a saved state against fitness: a state that passes it is fit, but for a size that its words can't hold; and a walk reaches
 -- states that do not pass it.
+use Rattle.std.proofs.lemmas.Bool.{and_from}
+use Rattle.std.specs.Prelude.{None}
 use Prim.Native.Nat.{◌-◌, ◌^◌, ◌≤◌}
 use mathlib.Core.Bool.{true, false}
 use mathlib.Core.List.{[], ◌∷◌}
@@ -14,7 +16,6 @@ use Rattle.streaming.specs.declared.Locator.{Locator}
 use Rattle.streaming.specs.declared.FlatHeader.{FlatHeader}
 use Rattle.streaming.specs.declared.Stage.{Stage}
 use Rattle.streaming.specs.declared.Stage.TheVariants as stage
-use Rattle.streaming.specs.declared.Failure.TheVariants as failure
 use Rattle.streaming.specs.declared.FlatWalker.{FlatWalker}
 use Rattle.streaming.proofs.Cases.{shown}
 use Rattle.streaming.proofs.Choose.{and_left, and_right}
@@ -26,7 +27,6 @@ use Rattle.entry.specs.Fit.{at_byte, entry_consistent, fit_entry}
 use Rattle.object.specs.Fit.{behind_entry, object_done, object_consistent, size_in_words, fit_object}
 use Rattle.flat.specs.Fit.{is_taken, fit_at, consistent_at, fit_of, consistent_of}
 use Rattle.flat.specs.Flat.{request_of, feed_of}
-use Rattle.flat.proofs.Keeping.{and_both}
 
 -- ---- what passes is fit
 
@@ -35,7 +35,7 @@ unfolding entry_consistent fit_entry at_byte
 at_entry_lem s e =
     let few : s.map.shift ≤ 56 = search shown in
     let wide : leb s.map.shift 63 ≡ true = le-leb s.map.shift 63 (omega arith) in
-    search (and_both, and_left, and_right) depth 7
+    search (and_from, and_left, and_right) depth 7
 
 at_stage : (g : Stage) (s : FlatWalker) → consistent_at g s ≡ true → (g ≡ stage.Object → size_in_words s ≡ true) → fit_at g s ≡ true
 unfolding fit_object
@@ -43,7 +43,7 @@ at_stage stage.Vars s e sized = e
 at_stage stage.Classes s e sized = e
 at_stage stage.Chunk s e sized = e
 at_stage stage.Entry s e sized = at_entry_lem s e
-at_stage stage.Object s e sized = and_both _ _ e (sized refl)
+at_stage stage.Object s e sized = and_from _ _ e (sized refl)
 at_stage stage.Done s e sized = e
 
 pub consistent_fit : (s : FlatWalker) → consistent_of s ≡ true → (s.stage ≡ stage.Object → size_in_words s ≡ true) → fit_of s ≡ true
@@ -51,7 +51,7 @@ unfolding consistent_of fit_of
 consistent_fit s e sized =
     let taken : is_taken (start_refusal s.header) ≡ true = search (and_left, and_right) in
     let at : consistent_at s.stage s ≡ true = search (and_left, and_right) in
-    and_both _ _ taken (at_stage s.stage s at sized)
+    and_from _ _ taken (at_stage s.stage s at sized)
 
 -- ---- but for the size of an object: one word, and a size of 2^32 - 1
 
@@ -82,7 +82,7 @@ oversized =
       ms_len = 2;
       words = 1;
       map = at_entry 200 10 204 1 1000 0 0 0;
-      failure = failure.None;
+      failure = None;
     }
 
 pub oversized_consistent : consistent_of oversized ≡ true
@@ -110,7 +110,7 @@ eight_bytes =
       ms_len = 0;
       words = 0;
       map = at_entry 200 18 210 0 0 0 56 0;
-      failure = failure.None;
+      failure = None;
     }
 
 abbrev pub nine_bytes : FlatWalker

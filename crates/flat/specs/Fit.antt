@@ -1,11 +1,10 @@
 -- Which states a walk can reach (`fit_of`), and the Rust's own test of a saved state (`consistent_of`).
-use Rattle.std.specs.Prelude.{Bool, true, false, ◌&&◌}
+use Rattle.std.specs.Prelude.{Bool, true, false, ◌&&◌, Some, None}
 use Rattle.std.proofs.Math.Option.{Option, none, some}
 use Rattle.streaming.specs.declared.StreamError.{StreamError}
 use Rattle.streaming.specs.declared.Stage.{Stage}
 use Rattle.streaming.specs.declared.Stage.TheVariants as stage
-use Rattle.streaming.specs.declared.Failure.{Failure}
-use Rattle.streaming.specs.declared.Failure.TheVariants as failure
+use Rattle.streaming.specs.Answers.{Failure}
 use Rattle.streaming.specs.declared.FlatWalker.{FlatWalker}
 use Rattle.rules.specs.Header.{start_refusal}
 use Rattle.section.specs.Fit.{fit_section}
@@ -19,8 +18,8 @@ is_taken none = true
 is_taken (some e) = false
 
 abbrev pub is_sound : Failure → Bool
-is_sound failure.None = true
-is_sound (failure.Held f) = false
+is_sound None = true
+is_sound (Some f) = false
 
 -- ---- by the stage
 

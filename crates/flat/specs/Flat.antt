@@ -1,23 +1,19 @@
 -- The walk by calls: what the contracts of `start`, `request`, `feed` and `end_of_input` cite.
-use Rattle.std.specs.Prelude.{ℕ, Bool, ◌&&◌, List, length, get_or, replicate, ltb, leb, eqb}
+use Rattle.std.specs.Prelude.{ℕ, Bool, ◌&&◌, List, length, get_or, replicate, ltb, leb, eqb, Result, Ok, Err, Some, None}
+use Rattle.std.proofs.Math.Option.{Option, none, some}
 use Rattle.streaming.specs.Choose.{when◌then◌else◌}
 use Rattle.streaming.specs.State.{at_chunk, refused_by}
 use Rattle.streaming.specs.declared.FlatHeader.{FlatHeader}
 use Rattle.streaming.specs.declared.Request.{Request}
+use Rattle.streaming.specs.declared.StreamError.{StreamError}
 use Rattle.streaming.specs.declared.StreamError.TheVariants as error
-use Rattle.streaming.specs.declared.Asked.{Asked}
-use Rattle.streaming.specs.declared.Asked.TheVariants as asked
-use Rattle.streaming.specs.declared.Ended.{Ended}
+use Rattle.streaming.specs.Answers.{Asked, Ended, Failure}
 use Rattle.streaming.specs.declared.Stage.{Stage}
 use Rattle.streaming.specs.declared.Stage.TheVariants as stage
-use Rattle.streaming.specs.declared.Failure.{Failure}
-use Rattle.streaming.specs.declared.Failure.TheVariants as failure
 use Rattle.streaming.specs.declared.FlatWalker.{FlatWalker}
 use Rattle.streaming.specs.declared.Fed.{Fed}
-use Rattle.streaming.specs.declared.Started.{Started}
 use Rattle.account.specs.Statement.{ended_by}
 use Rattle.rules.specs.Header.{start_refusal}
-use Rattle.header.specs.Start.{start_answer}
 use Rattle.section.specs.Section.{enter_section, request_section, feed_section}
 use Rattle.chunk.specs.Chunk.{request_chunk, feed_chunk}
 use Rattle.entry.specs.Entry.{request_entry, feed_entry}
@@ -40,31 +36,39 @@ blank h = record {
   ms_len = 0;
   words = 0;
   map = at_chunk 0;
-  failure = failure.None;
+  failure = None;
 }
 
--- the header variables are entered; where the header is refused, the answer says so
-unfoldable pub start_of : FlatHeader → Started
-start_of h = record { answer = start_answer (start_refusal h); state = enter_section (blank h) stage.Vars }
+-- a walk that has begun: the header variables are entered
+unfoldable pub begun_of : FlatHeader → FlatWalker
+begun_of h = enter_section (blank h) stage.Vars
+
+-- where the header is refused there is no walk
+abbrev pub started : Option StreamError → FlatWalker → Result FlatWalker StreamError
+started none s = Ok s
+started (some e) s = Err e
+
+unfoldable pub start_of : FlatHeader → Result FlatWalker StreamError
+start_of h = started (start_refusal h) (begun_of h)
 
 -- ---- request and the end of input
 
 abbrev pub request_at : Stage → FlatWalker → Asked
-request_at stage.Vars s = asked.Demand (request_section s)
-request_at stage.Classes s = asked.Demand (request_section s)
-request_at stage.Chunk s = asked.Demand (request_chunk s)
-request_at stage.Entry s = asked.Demand (request_entry s)
-request_at stage.Object s = asked.Demand (request_object s)
-request_at stage.Done s = asked.Nothing
+request_at stage.Vars s = Ok (Some (request_section s))
+request_at stage.Classes s = Ok (Some (request_section s))
+request_at stage.Chunk s = Ok (Some (request_chunk s))
+request_at stage.Entry s = Ok (Some (request_entry s))
+request_at stage.Object s = Ok (Some (request_object s))
+request_at stage.Done s = Ok None
 
 -- what a fit state asks for, and 19 for any other
 abbrev pub asked_if : (fit : Bool) → Asked → Asked
-asked_if fit q = when fit then q else asked.Refused error.BadState
+asked_if fit q = when fit then q else Err error.BadState
 
 -- the held failure, then 19, then the stage
 abbrev pub request_in : Failure → FlatWalker → Asked
-request_in (failure.Held f) s = asked.Refused (error.Fault f)
-request_in failure.None s = asked_if (fit_of s) (request_at s.stage s)
+request_in (Some f) s = Err (error.Fault f)
+request_in None s = asked_if (fit_of s) (request_at s.stage s)
 
 unfoldable pub request_of : FlatWalker → Asked
 request_of s = request_in s.failure s
@@ -93,9 +97,9 @@ offered_to r s offset piece taken =
 
 -- by what is asked for: 3, 4, 5, then the rules
 abbrev pub offered_by : Stage → Asked → FlatWalker → (offset : ℕ) (piece : List ℕ) → Fed
-offered_by g (asked.Demand r) s offset piece = offered_to r s offset piece (feed_at g s piece)
-offered_by g asked.Nothing s offset piece = refused_by error.Finished s
-offered_by g (asked.Refused e) s offset piece = refused_by e s
+offered_by g (Ok (Some r)) s offset piece = offered_to r s offset piece (feed_at g s piece)
+offered_by g (Ok None) s offset piece = refused_by error.Finished s
+offered_by g (Err e) s offset piece = refused_by e s
 
 abbrev pub offered : Asked → FlatWalker → (offset : ℕ) (piece : List ℕ) → Fed
 offered q s offset piece = offered_by s.stage q s offset piece

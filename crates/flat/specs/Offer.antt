@@ -1,9 +1,10 @@
 -- Whether a piece is taken: what the code tests before a stage sees the piece.
-use Rattle.std.specs.Prelude.{ℕ, ◌≤◌, ◌<◌, Bool, ◌&&◌, List, get_or, ltb, leb, eqb}
+use Rattle.std.specs.Prelude.{ℕ, Bool, ◌&&◌, List, get_or, ltb, leb, eqb, Ok, Err}
 use Rattle.streaming.specs.Choose.{when◌then◌else◌}
 use Rattle.streaming.specs.State.{refused_by}
 use Rattle.streaming.specs.declared.Request.{Request}
 use Rattle.streaming.specs.declared.StreamError.TheVariants as error
+use Rattle.streaming.specs.Answers.{Ended}
 use Rattle.streaming.specs.declared.Stage.{Stage}
 use Rattle.streaming.specs.declared.Stage.TheVariants as stage
 use Rattle.streaming.specs.declared.FlatWalker.{FlatWalker}
@@ -17,20 +18,13 @@ use Rattle.entry.specs.Fit.{fit_entry}
 use Rattle.object.specs.Object.{request_object, feed_object}
 use Rattle.object.specs.Fit.{fit_object}
 use Rattle.flat.specs.Flat.{offered_to}
-use Rattle.flat.specs.declared.feeding.Offer.{Offer}
-use Rattle.flat.specs.declared.feeding.Offer.TheVariants as offer
 
 -- 4, then 5
-unfoldable pub offer_of : Request → (offset size : ℕ) → Offer
+unfoldable pub offer_of : Request → (offset size : ℕ) → Ended
 offer_of r offset size =
     when eqb offset r.offset then
-    (when ltb 0 size && leb size r.len then offer.Taken else offer.Refused (error.InvalidFeed r.len size))
-    else offer.Refused (error.WrongOffset r.offset offset)
-
--- a piece that is taken has a first byte, and is no longer than the demand
-abbrev pub Fits : Offer → Request → (size : ℕ) → Type 0
-Fits offer.Taken r size = (0 < size) × (size ≤ r.len)
-Fits (offer.Refused e) r size = Unit {0}
+    (when ltb 0 size && leb size r.len then Ok tt else Err (error.InvalidFeed r.len size))
+    else Err (error.WrongOffset r.offset offset)
 
 -- what a fit state does with a piece that is offered; any other state answers 19
 abbrev pub fed_if : (fit : Bool) → Request → FlatWalker → (offset : ℕ) (piece : List ℕ) → Fed → Fed

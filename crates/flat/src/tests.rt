@@ -1,38 +1,22 @@
 // The tests of a state, by its stage.
 ghost use Rattle.std.specs.Prelude.{◌≡◌};
 ghost use Rattle.rules.specs.Header.{start_refusal};
-ghost use Rattle.flat.specs.Fit.{is_taken, is_sound, fit_at, consistent_at};
+ghost use Rattle.flat.specs.Fit.{is_taken, fit_at, consistent_at};
 
-use streaming::{Failure, FlatHeader, FlatWalker, Stage, Start};
+use streaming::{FlatHeader, FlatWalker, Stage};
 
 // Whether Start takes the header.
 pub fn is_taken(h: FlatHeader) -> bool
     ensures { result ≡ is_taken (start_refusal h) }
 {
-    let answer = header::start_answer(h);
-    match answer {
-        Start::Begun => true,
-        Start::Refused(_) => false,
-    }
-}
-
-// Whether no failure is held.
-pub fn is_sound(f: Failure) -> bool
-    ensures { result ≡ is_sound f }
-{
-    match f {
-        Failure::None => true,
-        Failure::Held(_) => false,
-    }
+    header::start_answer(h).is_ok()
 }
 
 pub fn fit_at(s: FlatWalker) -> bool
     ensures { result ≡ fit_at s.stage s }
 {
-    let stage = s.stage;
-    match stage {
-        Stage::Vars => section::fit_section(s),
-        Stage::Classes => section::fit_section(s),
+    match s.stage {
+        Stage::Vars | Stage::Classes => section::fit_section(s),
         Stage::Chunk => chunk::fit_chunk(s),
         Stage::Entry => entry::fit_entry(s),
         Stage::Object => object::fit::fit_object(s),
@@ -43,10 +27,8 @@ pub fn fit_at(s: FlatWalker) -> bool
 pub fn consistent_at(s: FlatWalker) -> bool
     ensures { result ≡ consistent_at s.stage s }
 {
-    let stage = s.stage;
-    match stage {
-        Stage::Vars => section::fit_section(s),
-        Stage::Classes => section::fit_section(s),
+    match s.stage {
+        Stage::Vars | Stage::Classes => section::fit_section(s),
         Stage::Chunk => chunk::fit_chunk(s),
         Stage::Entry => entry::entry_consistent(s),
         Stage::Object => object::fit::object_consistent(s),

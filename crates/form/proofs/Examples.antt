@@ -3,8 +3,7 @@ use Prim.Native.Nat.{ℕ}
 use mathlib.Core.Bool.{true, false}
 use mathlib.Core.List.{List, [], ◌∷◌, ◌++◌}
 use mathlib.Core.Path.{◌≡◌, refl}
-use lib.ListN.{replicate}
-use Rattle.streaming.specs.Choose.{when◌then◌else◌}
+use Rattle.std.specs.Prelude.{Some}
 use Rattle.octets.specs.Octets.{little_endian}
 use Rattle.form.specs.Form.{stands, none_zero, first_cuts, is_form, locator_in, header_in, cuts_in, form_in, form_of}
 
@@ -22,13 +21,14 @@ unfolding is_form stands none_zero little_endian
 taken = refl
 
 -- the cuts are 513 and 5, and the source begins at 35
-pub says : ((form_of (input two_cuts)).header.count ≡ 1) × ((form_of (input two_cuts)).header.length ≡ 2) × ((form_of (input two_cuts)).source ≡ 35)
-    × ((form_of (input two_cuts)).cuts.count ≡ 2) × ((form_of (input two_cuts)).cuts.sizes ≡ 513 ∷ 5 ∷ replicate 62 0)
-unfolding form_of form_in header_in cuts_in first_cuts is_form stands none_zero little_endian when◌then◌else◌
+pub says : (form_of (input two_cuts) ≡ Some (form_in (input two_cuts)))
+    × ((form_in (input two_cuts)).header.count ≡ 1) × ((form_in (input two_cuts)).header.length ≡ 2) × ((form_in (input two_cuts)).source ≡ 35)
+    × ((form_in (input two_cuts)).cuts ≡ 513 ∷ 5 ∷ [])
+unfolding form_of form_in header_in cuts_in first_cuts is_form stands none_zero little_endian
 says = (refl, refl, refl, refl, refl)
 
 pub located : (locator_in (input two_cuts) 0 ≡ record { number = 2; offset = 258; size = 3 }) × (locator_in (input two_cuts) 1 ≡ record { number = 0; offset = 0; size = 0 })
-unfolding locator_in little_endian when◌then◌else◌
+unfolding locator_in little_endian
 located = (refl, refl)
 
 -- a byte behind the source, and a cut of 0

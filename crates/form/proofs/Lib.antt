@@ -1,7 +1,6 @@
 pub mod Sections
 pub mod Zeros
-pub mod Checked
-pub mod Filled
+pub mod Numbers
 pub mod Reading
 pub mod Given
 pub mod Examples

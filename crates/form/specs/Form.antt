@@ -1,10 +1,11 @@
 -- The driver's input form (document 01, "Driver"): four sections in order, each behind its count of four bytes; and what an input in that form says.
-use Rattle.std.specs.Prelude.{ℕ, zero, suc, ◌+◌, ◌*◌, ◌≤◌, ◌<◌, Bool, true, false, ◌&&◌, List, [], ◌∷◌, ◌++◌, ◌≡◌, length, take, drop, get_or, replicate, eqb, ltb, leb}
-use Rattle.std.proofs.lemmas.List.Edits.{sets}
-use Rattle.streaming.specs.Choose.{when◌then◌else◌}
+use Rattle.std.specs.Prelude.{ℕ, zero, suc, ◌+◌, ◌*◌, ◌≤◌, Bool, true, ◌&&◌, List, [], ◌∷◌, ◌++◌, ◌≡◌, Option, Some, None, if◌then◌else◌, length, take, drop, get_or, eqb, ltb, leb}
 use Rattle.streaming.specs.declared.Locator.{Locator}
 use Rattle.streaming.specs.declared.FlatHeader.{FlatHeader}
 use Rattle.octets.specs.Octets.{little_endian}
+use Rattle.form.specs.Cutting.{Cutting}
+use Rattle.form.specs.declared.Shape.{Shape}
+use Rattle.form.specs.declared.Section.{Section}
 use Rattle.form.specs.declared.Cuts.{Cuts}
 use Rattle.form.specs.declared.Form.{Form}
 
@@ -24,6 +25,15 @@ behind s at size = at + 4 + size * count_at s at
 -- a section stands there: its count, `least` to `most`, and so many items of `size` bytes
 unfoldable pub stands : List ℕ → (at size least most : ℕ) → Bool
 stands s at size least most = leb (at + 4) (length s) && (leb least (count_at s at) && (leb (count_at s at) most && leb (behind s at size) (length s)))
+
+-- one stands there, and this is its count, where its items begin and where it ends
+pub record Found (s : List ℕ) (at : ℕ) (shape : Shape) (x : Section) : Type 0 where
+  pub stood : stands s at shape.size shape.least shape.most ≡ true
+  pub count : x.count ≡ count_at s at
+  pub items : x.items ≡ at + 4
+  pub end : x.end ≡ behind s at shape.size
+  pub at_most : x.count ≤ shape.most
+  pub within : x.end ≤ length s
 
 -- locators are at 0, 9 bytes each; then the magic, then the cuts, 2 bytes each, then the source
 abbrev pub magic_at : List ℕ → ℕ
@@ -58,14 +68,6 @@ unfoldable pub is_form : List ℕ → Bool
 is_form s = leb (length s) 60000 && (stands s 0 9 0 6 && (stands s (magic_at s) 1 6 6 && (stands s (cuts_at s) 2 0 64 && (
     none_zero s (cuts_at s + 4) (count_at s (cuts_at s)) && (stands s (source_at s) 1 0 60000 && eqb (behind s (source_at s) 1) (length s))))))
 
--- what an input in the form has, for whoever reads it: each section whole
-pub record Held (s : List ℕ) : Type 0 where
-  pub few : length s ≤ 60000
-  pub locators : count_at s 0 ≤ 6
-  pub magic : count_at s (magic_at s) ≡ 6
-  pub cuts : count_at s (cuts_at s) ≤ 64
-  pub source : behind s (source_at s) 1 ≡ length s
-
 -- ---- what it says
 
 -- a locator, 9 bytes: number, offset, size
@@ -77,50 +79,37 @@ blank_locator = record { number = 0; offset = 0; size = 0 }
 
 -- the locator of an index; those behind the counted ones are blank
 unfoldable pub locator_in : List ℕ → (i : ℕ) → Locator
-locator_in s i = when ltb i (count_at s 0) then locator_at s (4 + 9 * i) else blank_locator
+locator_in s i = if ltb i (count_at s 0) then locator_at s (4 + 9 * i) else blank_locator
+
+-- the six of them
+abbrev pub locators_in : List ℕ → List Locator
+locators_in s = locator_in s 0 ∷ locator_in s 1 ∷ locator_in s 2 ∷ locator_in s 3 ∷ locator_in s 4 ∷ locator_in s 5 ∷ []
 
 -- the header that it hands over; its length is the source's
 unfoldable pub header_in : List ℕ → FlatHeader
 header_in s = record {
   magic = take 6 (drop (magic_at s + 4) s);
   count = count_at s 0;
-  locators = locator_in s 0 ∷ locator_in s 1 ∷ locator_in s 2 ∷ locator_in s 3 ∷ locator_in s 4 ∷ locator_in s 5 ∷ [];
+  locators = locators_in s;
   length = count_at s (source_at s);
 }
 
--- the cuts, at the front of 64 places
+-- the cuts, which contracts see as the list of them
 unfoldable pub cuts_in : List ℕ → Cuts
-cuts_in s = record { count = count_at s (cuts_at s); sizes = sets (replicate 64 0) 0 (first_cuts s (cuts_at s + 4) (count_at s (cuts_at s))) }
-
--- an input that is not in the form says nothing
-abbrev pub no_form : Form
-no_form = record {
-  good = false;
-  header = record {
-    magic = replicate 6 0;
-    count = 0;
-    length = 0;
-    locators = blank_locator ∷ blank_locator ∷ blank_locator ∷ blank_locator ∷ blank_locator ∷ blank_locator ∷ [];
-  };
-  cuts = record { count = 0; sizes = replicate 64 0 };
-  source = 0;
-}
+cuts_in s = first_cuts s (cuts_at s + 4) (count_at s (cuts_at s))
 
 -- the source's bytes begin behind its count
 unfoldable pub form_in : List ℕ → Form
-form_in s = record { good = true; header = header_in s; cuts = cuts_in s; source = source_at s + 4 }
+form_in s = record { header = header_in s; cuts = cuts_in s; source = source_at s + 4 }
 
-unfoldable pub form_of : List ℕ → Form
-form_of s = when is_form s then form_in s else no_form
+-- an input that is not in the form says nothing
+unfoldable pub form_of : List ℕ → Option Form
+form_of s = if is_form s then Some (form_in s) else None
 
 -- ---- what it gives to whoever walks it
 
--- the counted cuts have their places, and none is 0
-pub record Cutting (c : Cuts) : Type 0 where
-  pub few : c.count ≤ 64
-  pub some : (i : ℕ) → i < c.count → 0 < get_or c.sizes i 0
-
--- the source's bytes are the rest of the input
+-- the source's bytes are the rest of the input, which is a short one
 pub record Given (s : List ℕ) (f : Form) : Type 0 where
+  pub short : length s ≤ 60000
   pub source : f.source + f.header.length ≡ length s
   pub cuts : Cutting f.cuts

@@ -1,223 +1,219 @@
-// The driver's input form, checked whole and then read: locators, magic, cuts, source, each behind its count (document 01, "Driver").
+// The driver's input form, checked and read section by section: locators, magic, cuts, source, each behind its count (document 01, "Driver").
 #![tactic(auto)]
 
-ghost use Rattle.std.specs.Prelude.{◌≡◌, ◌+◌, ◌*◌, ◌<◌, ◌≤◌, length, take, drop, replicate};
-ghost use Rattle.std.proofs.lemmas.List.Edits.{sets};
-ghost use Rattle.streaming.specs.Choose.{when◌then◌else◌};
-ghost use Rattle.form.specs.Form.{number_at, count_at, behind, stands, magic_at, source_at, none_zero, first_cuts, Held, is_form, locator_in, header_in, form_in, no_form, form_of};
+ghost use Rattle.std.specs.Prelude.{◌≡◌, ◌+◌, ◌*◌, ◌<◌, ◌≤◌, true, false, length, slice_get, IfSome, MatchOption};
+ghost use Rattle.form.specs.Cutting.{Cutting};
+ghost use Rattle.form.specs.Form.{number_at, count_at, stands, Found, none_zero, first_cuts, is_form, locator_at, locator_in, locators_in, form_of, Given};
 
-use octets::{copy_in, number_at};
+use arrayvec::ArrayVec;
+use octets::array_at;
+use std::array;
+use std::marker::Model;
 use streaming::{FlatHeader, Locator};
 
-// The sizes at which demands are cut: the first `count` of them.
-#[derive(Clone, Copy)]
+// The sizes at which demands are cut, in turn: at most 64, and none of them is 0.
+#[derive(Drop)]
 pub struct Cuts {
-    pub count: usize,
-    pub sizes: [u16; 64],
+    sizes: ArrayVec<u16, 64>,
 }
 
-// What an input says, if it is in the form: the header, the cuts, and the place at which the source's bytes begin.
-#[derive(Clone, Copy)]
+impl Model for Cuts {
+    ghost use Rattle.std.specs.Prelude.{ℕ, List};
+    ghost use Rattle.form.specs.Cutting.{Cutting};
+
+    ghost Value = { List ℕ };
+
+    ghost view = { λ c. c.sizes.items };
+
+    ghost invariant = { λ c. Cutting c.sizes.items };
+}
+
+impl Cuts {
+    // How many there are.
+    pub fn len(&self) -> usize
+        ensures count { result ≡ length self.now }
+        ensures cutting { Cutting self.now }
+    {
+        self.sizes.len()
+    }
+
+    // The cut of an index, if there is one.
+    pub fn get(&self, i: usize) -> Option<u16>
+        ensures cut { result ≡ slice_get self.now i }
+        ensures some { IfSome result (λ size. 0 < size) }
+    {
+        self.sizes.as_slice().get(i).copied()
+    }
+
+    // The cuts of a section, unless one of them is 0.
+    fn read(s: &[u8], section: Section) -> Option<Cuts>
+        requires { (section.items + 2 * section.count ≤ length s.now) × (section.count ≤ 64) }
+        ensures { MatchOption result (none_zero s.now section.items section.count ≡ false) (λ c. (none_zero s.now section.items section.count ≡ true) × (c ≡ first_cuts s.now section.items section.count)) }
+    {
+        let mut sizes = ArrayVec::new();
+        for i in 0..section.count {
+            let size = u16::from_le_bytes(array_at(s, section.items + 2 * i));
+            if size == 0 {
+                return None;
+            }
+            sizes.push(size);
+        }
+        Some(Cuts { sizes })
+    }
+}
+
+// What an input in the form says: the header, the cuts, and the place at which the source's bytes begin.
+#[derive(Drop)]
 pub struct Form {
-    pub good: bool,
     pub header: FlatHeader,
     pub cuts: Cuts,
     pub source: usize,
 }
 
-fn count_at(s: &[u8], at: usize) -> usize
-    requires { at + 4 ≤ length s.now }
-    ensures { (result ≡ count_at s.now at) × (result < 4294967296) }
-{
-    number_at(s, at, 4) as usize
+// How a section may be: so many bytes for each item, and how many items.
+#[derive(Clone, Copy)]
+struct Shape {
+    size: usize,
+    least: usize,
+    most: usize,
 }
 
-// The place behind the section that stands at a place, or 0 where none does.
-fn behind(s: &[u8], at: usize, size: usize, least: usize, most: usize) -> usize
-    requires { (at ≤ length s.now) × (length s.now ≤ 60000) × (size ≤ 9) × (most ≤ 60000) }
-    ensures { (result ≡ when stands s.now at size least most then behind s.now at size else 0) × (result ≤ length s.now) }
-{
-    if s.len() < at + 4 {
-        return 0;
-    }
-    let n = count_at(s, at);
-    if n < least {
-        return 0;
-    }
-    if most < n {
-        return 0;
-    }
-    let end = at + 4 + size * n;
-    if s.len() < end {
-        return 0;
-    }
-    end
+// A section that stands: how many items it has, where they begin, and where it ends.
+#[derive(Clone, Copy)]
+struct Section {
+    count: usize,
+    items: usize,
+    end: usize,
 }
 
-// Whether none of the first n cuts is 0; they begin at a place.
-fn none_zero(s: &[u8], at: usize, n: usize) -> bool
-    requires { at + 2 * n ≤ length s.now }
-    ensures { result ≡ none_zero s.now at n }
-{
-    let mut i = n;
-    while i > 0 {
-        i -= 1;
-        if number_at(s, at + 2 * i, 2) == 0 {
-            return false;
-        }
-    }
-    true
-}
+const MOST_BYTES: usize = 60000;
 
-// Whether an input is in the form.
-pub fn is_form(s: &[u8]) -> bool
-    ensures { result ≡ is_form s.now }
-{
-    if 60000 < s.len() {
-        return false;
-    }
-    let magic = behind(s, 0, 9, 0, 6);
-    if magic == 0 {
-        return false;
-    }
-    let cuts = behind(s, magic, 1, 6, 6);
-    if cuts == 0 {
-        return false;
-    }
-    let source = behind(s, cuts, 2, 0, 64);
-    if source == 0 {
-        return false;
-    }
-    if none_zero(s, cuts + 4, count_at(s, cuts)) {
-        let end = behind(s, source, 1, 0, 60000);
-        return end == s.len();
-    }
-    false
-}
+const MOST_LOCATORS: usize = 6;
 
-fn four(s: &[u8], at: usize) -> u32
+const LOCATORS: Shape = Shape {
+    size: 9,
+    least: 0,
+    most: MOST_LOCATORS,
+};
+
+const MAGIC: Shape = Shape {
+    size: 1,
+    least: 6,
+    most: 6,
+};
+
+const CUTS: Shape = Shape {
+    size: 2,
+    least: 0,
+    most: 64,
+};
+
+const SOURCE: Shape = Shape {
+    size: 1,
+    least: 0,
+    most: MOST_BYTES,
+};
+
+const BLANK_LOCATOR: Locator = Locator {
+    number: 0,
+    offset: 0,
+    size: 0,
+};
+
+#[tactic(auto, using(crate::proofs::Numbers::four_is))]
+fn u32_at(s: &[u8], at: usize) -> u32
     requires { at + 4 ≤ length s.now }
     ensures { result ≡ number_at s.now at 4 }
 {
-    number_at(s, at, 4) as u32
+    u32::from_le_bytes(array_at(s, at))
+}
+
+// The section of a shape that stands at a place, if one does.
+fn section_at(s: &[u8], at: usize, shape: Shape) -> Option<Section>
+    requires { (at ≤ length s.now) × (length s.now ≤ 60000) × (shape.size ≤ 9) }
+    ensures { MatchOption result (stands s.now at shape.size shape.least shape.most ≡ false) (λ x. Found s.now at shape x) }
+{
+    if s.len() < at + 4 {
+        return None;
+    }
+    let count = u32_at(s, at) as usize;
+    if count < shape.least || shape.most < count {
+        return None;
+    }
+    let items = at + 4;
+    let end = items + shape.size * count;
+    if s.len() < end {
+        return None;
+    }
+    Some(Section { count, items, end })
+}
+
+// The locator whose nine bytes begin at a place.
+pub fn locator_at(s: &[u8], at: usize) -> Locator
+    requires { at + 9 ≤ length s.now }
+    ensures { result ≡ locator_at s.now at }
+{
+    Locator {
+        number: s[at],
+        offset: u32_at(s, at + 1),
+        size: u32_at(s, at + 5),
+    }
 }
 
 // The locator of an index; those behind the counted ones are blank.
+#[tactic(auto, unfolding(crate::specs::Form::locator_in))]
 fn locator(s: &[u8], count: usize, i: usize) -> Locator
     requires { (count ≡ count_at s.now 0) × (4 + 9 * count ≤ length s.now) × (i < 6) }
     ensures { result ≡ locator_in s.now i }
 {
-    if count <= i {
-        return Locator {
-            number: 0,
-            offset: 0,
-            size: 0,
-        };
-    }
-    let at = 4 + 9 * i;
-    Locator {
-        number: s[at],
-        offset: four(s, at + 1),
-        size: four(s, at + 5),
+    if i < count {
+        locator_at(s, 4 + 9 * i)
+    } else {
+        BLANK_LOCATOR
     }
 }
 
-// Six bytes at a place.
-fn six(s: &[u8], at: usize) -> [u8; 6]
-    requires { at + 6 ≤ length s.now }
-    ensures { result ≡ take 6 (drop at s.now) }
+// All six.
+fn six_locators(s: &[u8], count: usize) -> [Locator; 6]
+    requires { (count ≡ count_at s.now 0) × (4 + 9 * count ≤ length s.now) }
+    ensures { result ≡ locators_in s.now }
 {
-    let mut r = [0u8; 6];
-    let end = at + 6;
-    copy_in(&mut r, 0, &s[at..end]);
-    r
+    array::from_fn(|i| locator(s, count, i))
 }
 
-// The header that an input hands over. The source's count is at a place.
-fn header(s: &[u8], magic: usize, source: usize) -> FlatHeader
-    requires { Held s.now × (magic ≡ magic_at s.now) × (source ≡ source_at s.now) }
-    ensures { result ≡ header_in s.now }
+// What an input says, if it is in the form.
+pub fn read(s: &[u8]) -> Option<Form>
+    ensures form { result ≡ form_of s.now }
+    ensures given { IfSome result (λ f. Given s.now f) }
 {
-    let count = count_at(s, 0);
-    FlatHeader {
-        magic: six(s, magic + 4),
-        count: count as u8,
-        locators: [
-            locator(s, count, 0),
-            locator(s, count, 1),
-            locator(s, count, 2),
-            locator(s, count, 3),
-            locator(s, count, 4),
-            locator(s, count, 5),
-        ],
-        length: number_at(s, source, 4),
+    if MOST_BYTES < s.len() {
+        return None;
     }
-}
-
-// The first n cuts; they begin at a place.
-fn sizes(s: &[u8], at: usize, n: usize) -> [u16; 64]
-    requires { (at + 2 * n ≤ length s.now) × (n ≤ 64) }
-    ensures { result ≡ sets (replicate 64 0) 0 (first_cuts s.now at n) }
-{
-    let mut r = [0u16; 64];
-    let mut i = 0;
-    while i < n {
-        r[i] = number_at(s, at + 2 * i, 2) as u16;
-        i += 1;
+    let locators = section_at(s, 0, LOCATORS)?;
+    let magic = section_at(s, locators.end, MAGIC)?;
+    let cuts = section_at(s, magic.end, CUTS)?;
+    let sizes = Cuts::read(s, cuts)?;
+    let source = section_at(s, cuts.end, SOURCE)?;
+    if source.end != s.len() {
+        return None;
     }
-    r
-}
-
-// What an input in the form says.
-fn said(s: &[u8]) -> Form
-    requires { Held s.now }
-    ensures { result ≡ form_in s.now }
-{
-    let magic = 4 + 9 * count_at(s, 0);
-    let cuts = magic + 10;
-    let count = count_at(s, cuts);
-    let source = cuts + 4 + 2 * count;
-    let head = header(s, magic, source);
-    let sizes = sizes(s, cuts + 4, count);
-    Form {
-        good: true,
-        header: head,
-        cuts: Cuts { count, sizes },
-        source: source + 4,
-    }
-}
-
-// Nothing is said.
-fn nothing() -> Form
-    ensures { result ≡ no_form }
-{
-    let blank = Locator {
-        number: 0,
-        offset: 0,
-        size: 0,
+    let header = FlatHeader {
+        magic: array_at(s, magic.items),
+        count: locators.count as u8,
+        locators: six_locators(s, locators.count),
+        length: source.count as u64,
     };
-    Form {
-        good: false,
-        header: FlatHeader {
-            magic: [0; 6],
-            count: 0,
-            locators: [blank, blank, blank, blank, blank, blank],
-            length: 0,
-        },
-        cuts: Cuts {
-            count: 0,
-            sizes: [0; 64],
-        },
-        source: 0,
-    }
+    Some(Form {
+        header,
+        cuts: sizes,
+        source: source.items,
+    })
 }
 
-// What an input says, which is nothing where it is not in the form.
-pub fn read(s: &[u8]) -> Form
-    ensures { result ≡ form_of s.now }
+// Whether an input is in the form.
+#[tactic(auto, using(crate::proofs::Reading::is_said))]
+pub fn is_form(s: &[u8]) -> bool
+    ensures { result ≡ is_form s.now }
 {
-    if is_form(s) {
-        return said(s);
-    }
-    nothing()
+    read(s).is_some()
 }

@@ -1,5 +1,4 @@
 -- Bounds of what any header that code is handed says: a locator's offset and size are u32, so the map ends below 2^33.
--- For `search (needs, map_end_below)`, which finds the header among what a need is handed.
 use Prim.Native.Nat.{ℕ, zero, suc, ◌<◌, ◌^◌}
 use native.Mathlib.Omega.{arith}
 use mathlib.Core.List.{List, [], ◌∷◌}
@@ -8,10 +7,13 @@ use lib.Dec.{eqb}
 use mir.Val.{Val}
 use denote.Array.{each}
 use denote.Shadow.{shadow}
+use denote.Struct.Declared.{row}
+use Rattle.streaming.specs.contracts.FlatWalker as walker
 use Rattle.streaming.specs.contracts.Locator.{the_row}
 use Rattle.streaming.proofs.Choose.{in_both}
 use Rattle.streaming.specs.declared.Locator.{Locator}
 use Rattle.streaming.specs.declared.FlatHeader.{FlatHeader}
+use Rattle.streaming.specs.declared.FlatWalker.{FlatWalker}
 use Rattle.rules.specs.Header.{first_of, locator_of, map_end}
 
 record Small (l : Locator) : Type 0 where
@@ -44,3 +46,7 @@ module _ (h : FlatHeader) (us : List Val) (p : Owned h.locators us) where
   pub map_end_below : map_end h < 2 ^ 33
   unfolding map_end
   map_end_below = omega (arith, offset_below 2, size_below 2)
+
+-- the same of a walk's state, for a function that is handed one: the last argument is `c.well_formed.0`
+pub map_end_of : (s : FlatWalker) (vs : List Val) → shadow ((row walker.the_type).own_val s vs) → map_end s.header < 2 ^ 33
+map_end_of s vs g = map_end_below s.header _ g.1.1.0.1.1.1.1.0.1.1

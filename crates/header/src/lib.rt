@@ -5,35 +5,25 @@ ghost use Rattle.std.specs.Prelude.{◌≡◌, ◌<◌, ◌^◌};
 ghost use Rattle.rules.specs.Header.{locator_of, map_start, map_end, header_end, is_r2000, is_outside, start_refusal};
 ghost use Rattle.header.specs.Start.{start_answer};
 
-use streaming::{FlatHeader, Locator, Start, StreamError};
+use streaming::{FlatHeader, Locator, StreamError};
 
-fn wide(x: u8) -> usize
-    ensures { result ≡ x }
-{
-    x as usize
-}
+// What stands for a locator that is missing.
+const MISSING: Locator = Locator {
+    number: 0,
+    offset: 0,
+    size: 0,
+};
 
 // The first of the counted locators with this number; a missing one is all zero.
 pub fn locator(h: FlatHeader, number: u8) -> Locator
     ensures { result ≡ locator_of h number }
 {
-    let count = wide(h.count);
-    let mut i: usize = 0;
-    while i < 6 {
-        if count <= i {
-            break;
-        }
-        let l = h.locators[i];
-        if l.number == number {
-            return l;
-        }
-        i += 1;
-    }
-    Locator {
-        number: 0,
-        offset: 0,
-        size: 0,
-    }
+    h.locators
+        .iter()
+        .take(h.count as usize)
+        .find(|l| l.number == number)
+        .copied()
+        .unwrap_or(MISSING)
 }
 
 pub fn map_start(h: FlatHeader) -> u64
@@ -43,6 +33,7 @@ pub fn map_start(h: FlatHeader) -> u64
     map.offset as u64
 }
 
+#[tactic(auto, unfolding(rules::specs::Header::map_end))]
 pub fn map_end(h: FlatHeader) -> u64
     ensures { (result ≡ map_end h) × (result < 2 ^ 33) }
 {
@@ -60,10 +51,11 @@ pub fn header_end(h: FlatHeader) -> u64
 pub fn is_r2000(h: FlatHeader) -> bool
     ensures { result ≡ is_r2000 h }
 {
-    octets::same(&h.magic, b"AC1015")
+    h.magic == *b"AC1015"
 }
 
 // Whether a locator's bytes end behind the source.
+#[tactic(auto, unfolding(rules::specs::Header::is_outside))]
 fn is_outside(h: FlatHeader, number: u8) -> bool
     ensures { result ≡ is_outside h number }
 {
@@ -72,20 +64,16 @@ fn is_outside(h: FlatHeader, number: u8) -> bool
 }
 
 // Whether Start takes the header: refusals 1 and 2.
-pub fn start_answer(h: FlatHeader) -> Start
+pub fn start_answer(h: FlatHeader) -> Result<(), StreamError>
     ensures { result ≡ start_answer (start_refusal h) }
 {
     if 6 < h.count {
-        return Start::Refused(StreamError::LocatorCount(h.count));
+        return Err(StreamError::LocatorCount(h.count));
     }
-    if is_outside(h, 0) {
-        return Start::Refused(StreamError::LocatorRange(0));
+    for number in 0..3 {
+        if is_outside(h, number) {
+            return Err(StreamError::LocatorRange(number));
+        }
     }
-    if is_outside(h, 1) {
-        return Start::Refused(StreamError::LocatorRange(1));
-    }
-    if is_outside(h, 2) {
-        return Start::Refused(StreamError::LocatorRange(2));
-    }
-    Start::Begun
+    Ok(())
 }

@@ -2,74 +2,77 @@
 // An operation is a format (0 R14, 1 R2000), a length up to 16 and that many bytes; its answer `type handle`, or `-` for none.
 #![tactic(auto)]
 
-ghost use Rattle.std.specs.Prelude.{◌≤◌, length};
+ghost use Rattle.std.specs.Prelude.{◌<◌, length, IfSome};
 
+use records::{Opening, RecordFormat, prologue};
 use std::io;
 use std::io::Read;
 
-fn wide(b: u8) -> usize {
-    b as usize
+// The most bytes of an input, and of an operation's head.
+const INPUT_MOST: usize = 60000;
+
+const HEAD_MOST: usize = 16;
+
+// An operation: how the data begins, and the bytes that it begins with.
+#[derive(Clone, Copy)]
+struct Operation<'a> {
+    format: RecordFormat,
+    head: &'a [u8],
 }
 
-// The bytes of the operation that begins s, or 0 where it is malformed.
-fn size(s: &[u8]) -> usize
-    ensures { result ≤ length s.now }
+impl<'a> Operation<'a> {
+    fn answer(self) -> Option<Opening> {
+        prologue(self.head, self.format)
+    }
+}
+
+// The operation that begins s, and what stands behind it; none where it is malformed.
+fn first_of<'a>(s: &'a [u8]) -> Option<(Operation<'a>, &'a [u8])>
+    ensures { IfSome result (λ r. length r.1.now < length s.now) }
 {
-    if s.len() < 2 {
-        return 0;
+    let [format, n, rest @ ..] = s else {
+        return None;
+    };
+    let n = usize::from(*n);
+    if *format > 1 || n > HEAD_MOST || n > rest.len() {
+        return None;
     }
-    let format = s[0];
-    let n = wide(s[1]);
-    if (format > 1) | (n > 16) {
-        return 0;
-    }
-    if s.len() - 2 < n { 0 } else { 2 + n }
+    let format = RecordFormat::from(*format == 1);
+    let (head, behind) = rest.split_at(n);
+    Some((Operation { format, head }, behind))
 }
 
-fn print(rt: &impl Print, head: records::Head) -> io::Result<()> {
-    match head {
-        records::Head::Nothing => println!(rt; "-"),
-        records::Head::Read(opening) => {
-            let type_code = opening.type_code;
-            let handle = opening.handle;
-            println!(rt; "{type_code} {handle}")
-        }
+// Whether the input is operations and nothing else.
+fn is_well_formed(input: &[u8]) -> bool {
+    let mut rest = input;
+    while let Some((_, behind)) = first_of(rest) {
+        rest = behind;
+    }
+    rest.is_empty()
+}
+
+fn print(rt: &impl Print, answer: Option<Opening>) -> io::Result<()> {
+    match answer {
+        None => println!(rt; "-"),
+        Some(Opening { type_code, handle }) => println!(rt; "{type_code} {handle}"),
     }
 }
 
-// One operation.
-fn answer(op: &[u8]) -> records::Head {
-    if op.len() < 2 {
-        return records::Head::Nothing;
+// Answers the operations up to the first malformed one.
+fn answer_all(rt: &impl Print, input: &[u8]) -> io::Result<()> {
+    let mut rest = input;
+    while let Some((operation, behind)) = first_of(rest) {
+        print(rt, operation.answer())?;
+        rest = behind;
     }
-    if op[0] == 0 {
-        return records::prologue(&op[2..], records::RecordFormat::R14);
-    }
-    records::prologue(&op[2..], records::RecordFormat::R2000)
-}
-
-// Goes through the operations, and answers each if told to. Whether the input is operations and nothing else.
-fn go_through(rt: &impl Print, s: &[u8], answering: bool) -> io::Result<bool> {
-    let mut at = 0;
-    while at < s.len() {
-        let n = size(&s[at..]);
-        if n == 0 {
-            return Ok(false);
-        }
-        if answering {
-            print(rt, answer(&s[at..at + n]))?;
-        }
-        at += n;
-    }
-    Ok(true)
+    Ok(())
 }
 
 fn main(rt: HostRuntime) -> io::Result<()> {
     let mut input = Vec::new(rt.alloc());
     rt.reader().take(65536).read_to_end(&mut input)?;
-    if (input.len() <= 60000) && go_through(&rt, &input, false)? {
-        go_through(&rt, &input, true)?;
-        return Ok(());
+    if input.len() <= INPUT_MOST && is_well_formed(&input) {
+        return answer_all(&rt, &input);
     }
     println!(rt; "I")
 }

@@ -1,19 +1,16 @@
 -- Laws of decimal text and of lines: the fewest digits are the text, and a line grows by one number.
 use Prim.Native.Nat.{ℕ, zero, suc, ◌+◌, ◌*◌, ◌-◌, ◌/◌, ◌%◌, ◌^◌, ◌≤◌, ◌<◌}
-use mathlib.Core.Path.{◌≡◌, refl, sym, ap, ◌∙◌}
+use mathlib.Core.Path.{◌≡◌, sym, ap, ◌∙◌}
 use mathlib.Core.List.{List, [], ◌∷◌, ◌++◌, append_assoc, append-nil}
-use mathlib.Core.Logic.{◌⊎◌, inl, inr}
-use lib.ListN.{length, set, take, drop, get_or, length-append, length-take}
-use lib.Seq.{take-suc, take_all, take_at, take-suc-set, sets, sets-eq}
-use mathlib.Core.Bool.{Bool, true, false}
-use lib.Dec.{leb}
-use native.Mathlib.Nat.{pow-succ', pow-le-pow_right, mod-eq_of_lt, mod-lt, one-le-pow}
+use lib.ListN.{length, take, get_or}
+use lib.Seq.{take-suc}
+use native.Mathlib.Nat.{pow-succ', mod-eq_of_lt, mod-lt, one-le-pow}
 use native.Mathlib.Numerals.{add-one}
 use native.Mathlib.Omega.{arith}
-use borrow.Author.Tests.{lt-ltb, le-ltb, leb-true, leb-false}
+use borrow.Author.Tests.{lt-ltb, le-ltb}
 use Rattle.io.specs.Digits.{hex_digit_ascii, last_digits, IsDigitCount}
 use Rattle.streaming.specs.Choose.{when◌then◌else◌}
-use Rattle.lines.specs.Line.{digits_in, decimal_of, spaced, line_of}
+use Rattle.lines.specs.Line.{digits_in, decimal_of, spaced}
 
 -- ---- decimal text
 
@@ -46,35 +43,6 @@ unfolding decimal_of
 text_of n zero f = absurd (omega (arith, f.0))
 text_of n (suc k) f = few_digits k n n (omega arith) f
 
--- a number below 2^64 has at most 20 digits
-pub at_most_twenty : (n k : ℕ) → n < 2 ^ 64 → IsDigitCount 10 1 n k → k ≤ 20
-at_most_twenty n k h f = split (leb k 20) refl
-  where
-    split : (v : Bool) → leb k 20 ≡ v → k ≤ 20
-    split true v = leb-true k 20 v
-    split false v =
-        let l : 20 < k = leb-false k 20 v in
-        absurd (omega (arith, f.2 (omega arith), pow-le-pow_right {n = 10} (omega arith) {i = 20} {j = k - 1} (omega arith)))
-
--- ---- bytes put at a place
-
-pub take_sets_at : (l vs : List ℕ) (at n : ℕ) → length vs ≡ n → at + n ≤ length l → take (at + n) (sets l at vs) ≡ take at l ++ vs
-take_sets_at l vs at n e h =
-    let k : length (take at l ++ vs) ≡ at + n = simp (length-append, length-take) (omega arith) in
-    rw (sets-eq vs l at (omega arith)) (take_at (take at l ++ vs) (drop (at + length vs) l) (at + n) k)
-
--- a space and then a number's text
-pub put_law : (l : List ℕ) (at n k : ℕ) (text out : List ℕ) → at + 21 ≤ length l → n < 2 ^ 64
-    → k ≡ length (take k text) → IsDigitCount 10 1 n k → take k text ≡ last_digits 10 k n → out ≡ sets (set l at 32) (at + 1) (take k text)
-    → take (at + 1 + k) out ≡ take at l ++ 32 ∷ decimal_of n
-put_law l at n k text out room small counts few spelt put =
-    let m : k ≤ 20 = at_most_twenty n k small few in
-    let e : take k text ≡ decimal_of n = spelt ∙ text_of n k few in
-    let w : length (32 ∷ decimal_of n) ≡ suc k = ap suc (ap length (sym e) ∙ sym counts) in
-    let q : out ≡ sets l at (32 ∷ decimal_of n) = put ∙ ap (λ (ds : List ℕ). sets (set l at 32) (at + 1) ds) e ∙ rw add-one in
-    let p : at + 1 + k ≡ at + suc k = omega arith in
-    rw (p, q) (take_sets_at l (32 ∷ decimal_of n) at (suc k) w (omega arith))
-
 -- ---- one number more
 
 pub spaced-more : (ns : List ℕ) (n : ℕ) → spaced (ns ++ (n ∷ [])) ≡ spaced ns ++ 32 ∷ decimal_of n
@@ -83,24 +51,6 @@ spaced-more (m ∷ ns) n = rw (spaced-more ns n) (ap (λ (l : List ℕ). 32 ∷ 
 
 pub spaced_next : (ns : List ℕ) (i : ℕ) → i < length ns → spaced (take (i + 1) ns) ≡ spaced (take i ns) ++ 32 ∷ decimal_of (get_or ns i 0)
 spaced_next ns i h = rw (add-one, take-suc ns i 0 h) (spaced-more (take i ns) (get_or ns i 0))
-
--- ---- a line, number by number
-
-module _ (numbers : List ℕ) where
-  pub line_next : (first out out' : List ℕ) (at r i : ℕ) → i < length numbers → take at out ≡ first ++ spaced (take i numbers)
-      → take r out' ≡ take at out ++ 32 ∷ decimal_of (get_or numbers i 0) → take r out' ≡ first ++ spaced (take (i + 1) numbers)
-  line_next first out out' at r i h e p =
-      p ∙ rw (e, spaced_next numbers i h) (append_assoc first (spaced (take i numbers)) (32 ∷ decimal_of (get_or numbers i 0)))
-
-  -- all numbers that are asked for are there, once i has come to the count or to the list's end
-  pub all_taken : (i count : ℕ) → i ≤ count → (length numbers ≤ i) ⊎ (count ≤ i) → take i numbers ≡ take count numbers
-  all_taken i count h (inl e) = rw (take_all i numbers e, take_all count numbers (omega arith))
-  all_taken i count h (inr l) = let e : i ≡ count = omega arith in rw e
-
-  pub line_end : (l out : List ℕ) (letter at i count : ℕ) → 0 < length l → at < length out → take i numbers ≡ take count numbers
-      → take at out ≡ take 1 (set l 0 letter) ++ spaced (take i numbers) → take (at + 1) (set out at 10) ≡ line_of letter (take count numbers)
-  unfolding line_of
-  line_end l out letter at i count h k e p = rw (add-one, take-suc-set out at 10 k, p, take-suc-set l 0 letter h, e)
 
 -- ---- the line of a value, where it is known which value
 

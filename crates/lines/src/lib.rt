@@ -1,6 +1,7 @@
 // Lines of output: a letter and numbers, decimal, each after one space, and a newline at the end.
 #![tactic(auto)]
 
+mod output;
 mod records;
 mod refusals;
 
@@ -8,64 +9,27 @@ ghost use Rattle.std.specs.Prelude.{◌+◌, ◌<◌, ◌≤◌, ◌≡◌, [], 
 ghost use Rattle.io.specs.Counts.{IsPrefixLen};
 ghost use Rattle.lines.specs.Line.{decimal_of, line_of, text_of};
 
+use arrayvec::ArrayVec;
+pub use output::print;
 pub use records::{object, section};
 pub use refusals::{number, refusal};
 
-// What a line says: its letter, and the first `count` of the numbers.
-#[derive(Clone, Copy)]
+// What a line says. Its numbers lie in the line itself, without a heap: no line has more than seven.
+#[derive(Drop)]
 pub struct Line {
     pub letter: u8,
-    pub count: usize,
-    pub numbers: [u64; 7],
+    pub numbers: ArrayVec<u64, 7>,
 }
 
-pub fn bare(letter: u8) -> Line
-    ensures { text_of result ≡ line_of letter [] }
-{
-    Line {
-        letter,
-        count: 0,
-        numbers: [0, 0, 0, 0, 0, 0, 0],
-    }
-}
-
-pub fn with_one(letter: u8, a: u64) -> Line
-    ensures { text_of result ≡ line_of letter (a ∷ []) }
-{
-    Line {
-        letter,
-        count: 1,
-        numbers: [a, 0, 0, 0, 0, 0, 0],
-    }
-}
-
-pub fn with_two(letter: u8, a: u64, b: u64) -> Line
-    ensures { text_of result ≡ line_of letter (a ∷ b ∷ []) }
-{
-    Line {
-        letter,
-        count: 2,
-        numbers: [a, b, 0, 0, 0, 0, 0],
-    }
-}
-
-pub fn with_three(letter: u8, a: u64, b: u64, c: u64) -> Line
-    ensures { text_of result ≡ line_of letter (a ∷ b ∷ c ∷ []) }
-{
-    Line {
-        letter,
-        count: 3,
-        numbers: [a, b, c, 0, 0, 0, 0],
-    }
-}
-
-pub fn with_four(letter: u8, a: u64, b: u64, c: u64, d: u64) -> Line
-    ensures { text_of result ≡ line_of letter (a ∷ b ∷ c ∷ d ∷ []) }
-{
-    Line {
-        letter,
-        count: 4,
-        numbers: [a, b, c, d, 0, 0, 0],
+impl Line {
+    pub fn new(letter: u8, numbers: &[u64]) -> Line
+        requires { length numbers.now ≤ 7 }
+        ensures { text_of result ≡ line_of letter numbers.now }
+    {
+        Line {
+            letter,
+            numbers: ArrayVec::try_from(numbers).unwrap(),
+        }
     }
 }
 
@@ -77,28 +41,23 @@ fn put_number(out: &mut [u8], at: usize, n: u64) -> usize
 {
     let mut text = [0u8; 20];
     let k = io::decimal(n, &mut text);
+    let end = at + 1 + k;
     out[at] = b' ';
-    octets::copy_in(out, at + 1, &text[..k]);
-    at + 1 + k
+    out[at + 1..end].copy_from_slice(&text[..k]);
+    end
 }
 
 // Puts the line's text at the start of out, and answers how many bytes it has.
+#[tactic(auto, using(crate::proofs::Laws::spaced_next))]
 pub fn put(line: Line, out: &mut [u8]) -> usize
     requires { 160 ≤ length out.old }
     ensures within { IsPrefixLen result out.new }
     ensures text { take result out.new ≡ text_of line }
 {
-    let numbers = line.numbers;
-    let count = line.count;
     out[0] = line.letter;
     let mut at = 1;
-    let mut i = 0;
-    while i < 7 {
-        if count <= i {
-            break;
-        }
-        at = put_number(out, at, numbers[i]);
-        i += 1;
+    for n in line.numbers.as_slice() {
+        at = put_number(out, at, *n);
     }
     out[at] = b'\n';
     at + 1

@@ -1,9 +1,10 @@
 // The line of a refusal: `X`, its number and its values, in document 01's order.
-ghost use Rattle.std.specs.Prelude.{◌≡◌};
-ghost use Rattle.streaming.specs.Numbers.{fault_number, number_of};
-ghost use Rattle.lines.specs.Line.{fault_line, refusal_line, text_of};
+ghost use Rattle.std.specs.Prelude.{◌≡◌, ◌≤◌, length};
+ghost use Rattle.streaming.specs.Numbers.{fault_number, fault_fields, number_of, fields_of};
+ghost use Rattle.lines.specs.Line.{refusal_line, text_of};
 
-use crate::{Line, with_four, with_one, with_three, with_two};
+use crate::Line;
+use arrayvec::ArrayVec;
 use streaming::{Fault, StreamError};
 
 fn fault_number(f: Fault) -> u64
@@ -41,48 +42,63 @@ pub fn number(e: StreamError) -> u64
     }
 }
 
-fn fault(f: Fault) -> Line
-    ensures { text_of result ≡ fault_line f }
+// A refusal has at most three values.
+fn values(of: &[u64]) -> ArrayVec<u64, 3>
+    requires { length of.now ≤ 3 }
+    ensures { result.items ≡ of.now }
+{
+    ArrayVec::try_from(of).unwrap()
+}
+
+fn fault_fields(f: Fault) -> ArrayVec<u64, 3>
+    ensures { result.items ≡ fault_fields f }
 {
     match f {
-        Fault::SectionSize(part) => with_two(b'X', 7, part as u64),
-        Fault::SectionSentinel(part) => with_two(b'X', 8, part as u64),
+        Fault::SectionSize(part) | Fault::SectionSentinel(part) => values(&[u64::from(part)]),
         Fault::SectionCrc {
             part,
             expected,
             actual,
-        } => with_four(b'X', 9, part as u64, expected as u64, actual as u64),
-        Fault::MapChunk(chunk) => with_two(b'X', 10, chunk),
+        } => values(&[u64::from(part), u64::from(expected), u64::from(actual)]),
+        Fault::MapChunk(n) | Fault::MapEntry(n) | Fault::ObjectSize(n) | Fault::ObjectHeader(n) =>
+            values(&[n]),
         Fault::MapCrc {
             chunk,
             expected,
             actual,
-        } => with_four(b'X', 11, chunk, expected as u64, actual as u64),
-        Fault::MapEntry(place) => with_two(b'X', 12, place),
-        Fault::ObjectRange { handle, offset } => with_three(b'X', 13, handle, offset),
-        Fault::ObjectSize(handle) => with_two(b'X', 14, handle),
+        } => values(&[chunk, u64::from(expected), u64::from(actual)]),
+        Fault::ObjectRange { handle, offset } => values(&[handle, offset]),
         Fault::ObjectCrc {
             handle,
             expected,
             actual,
-        } => with_four(b'X', 15, handle, expected as u64, actual as u64),
-        Fault::ObjectHeader(handle) => with_two(b'X', 16, handle),
-        Fault::ObjectHandle { map, record } => with_three(b'X', 17, map, record),
+        } => values(&[handle, u64::from(expected), u64::from(actual)]),
+        Fault::ObjectHandle { map, record } => values(&[map, record]),
+    }
+}
+
+fn fields(e: StreamError) -> ArrayVec<u64, 3>
+    ensures { result.items ≡ fields_of e }
+{
+    match e {
+        StreamError::LocatorCount(n) | StreamError::LocatorRange(n) => values(&[u64::from(n)]),
+        StreamError::Finished | StreamError::BadState => ArrayVec::new(),
+        StreamError::WrongOffset { expected, actual } => values(&[expected, actual]),
+        StreamError::InvalidFeed { maximum, actual } => values(&[maximum, actual]),
+        StreamError::Truncated { offset, needed } => values(&[offset, needed]),
+        StreamError::Fault(f) => fault_fields(f),
+        StreamError::NoRoom(needed) => values(&[needed]),
     }
 }
 
 pub fn refusal(e: StreamError) -> Line
     ensures { text_of result ≡ refusal_line e }
 {
-    match e {
-        StreamError::LocatorCount(count) => with_two(b'X', 1, count as u64),
-        StreamError::LocatorRange(number) => with_two(b'X', 2, number as u64),
-        StreamError::Finished => with_one(b'X', 3),
-        StreamError::WrongOffset { expected, actual } => with_three(b'X', 4, expected, actual),
-        StreamError::InvalidFeed { maximum, actual } => with_three(b'X', 5, maximum, actual),
-        StreamError::Truncated { offset, needed } => with_three(b'X', 6, offset, needed),
-        StreamError::Fault(f) => fault(f),
-        StreamError::NoRoom(needed) => with_two(b'X', 18, needed),
-        StreamError::BadState => with_one(b'X', 19),
+    let mut numbers = ArrayVec::new();
+    numbers.push(number(e));
+    numbers.try_extend_from_slice(fields(e).as_slice()).unwrap();
+    Line {
+        letter: b'X',
+        numbers,
     }
 }

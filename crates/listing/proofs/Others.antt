@@ -1,38 +1,32 @@
--- How the count of marked places goes on from a place of a list.
-use Prim.Native.Nat.{ℕ, zero, suc, ◌≤◌, ◌<◌}
-use native.Mathlib.Nat.{not-suc-le-zero, le_of_suc-le-suc}
-use mathlib.Core.Bool.{Bool, true, false, not}
-use mathlib.Core.Path.{◌≡◌, refl, sym, ◌∙◌, ap}
+-- How many places of a list hold the mark, up to the first that does not.
+use Prim.Native.Nat.{suc, ◌≤◌}
+use mathlib.Core.Bool.{Bool, true, false}
+use mathlib.Core.Path.{◌≡◌, refl, ap}
 use mathlib.Core.List.{List, [], ◌∷◌}
-use lib.ListN.{length, drop, get_or}
-use lib.Seq.{drop-cons, drop-nil}
+use native.Mathlib.Omega.{arith}
+use lib.ListN.{length}
+use Rattle.std.specs.Prelude.{cond, take_while}
+use Rattle.std.proofs.lemmas.List.Sums.{take_while-cons}
 use Rattle.streaming.specs.Choose.{when◌then◌else◌}
 use Rattle.streaming.specs.declared.ObjectRecord.{ObjectRecord}
 use Rattle.listing.specs.Listing.{is_mark, marked}
 
-pub not_true : (b : Bool) → not b ≡ true → b ≡ false
-not_true true e = sym e
-not_true false e = refl
+-- they are its front
+pub run_marked : (list : List ObjectRecord) → length (take_while is_mark list) ≡ marked list
+unfolding marked when◌then◌else◌
+run_marked [] = refl
+run_marked (r ∷ rs) = rw (take_while-cons is_mark r rs) (split (is_mark r) (run_marked rs))
+  where
+    split : (b : Bool) → length (take_while is_mark rs) ≡ marked rs
+        → length (cond b (r ∷ take_while is_mark rs) []) ≡ (when b then suc (marked rs) else 0)
+    split true k = ap suc k
+    split false k = refl
 
-pub not_false : (b : Bool) → not b ≡ false → b ≡ true
-not_false true e = refl
-not_false false e = sym e
-
-module _ (list : List ObjectRecord) (i : ℕ) (none : ObjectRecord) (within : i < length list) where
-  at_place : marked (drop i list) ≡ (when is_mark (get_or list i none) then suc (marked (drop (suc i) list)) else 0)
-  unfolding marked
-  at_place = ap marked (drop-cons list i none within)
-
-  pub other_stops : is_mark (get_or list i none) ≡ false → marked (drop i list) ≡ 0
-  unfolding when◌then◌else◌
-  other_stops e = at_place ∙ ap (λ (b : Bool). when b then suc (marked (drop (suc i) list)) else 0) e
-
-  pub mark_goes_on : is_mark (get_or list i none) ≡ true → marked (drop i list) ≡ suc (marked (drop (suc i) list))
-  unfolding when◌then◌else◌
-  mark_goes_on e = at_place ∙ ap (λ (b : Bool). when b then suc (marked (drop (suc i) list)) else 0) e
-
-pub none_behind : (list : List ObjectRecord) (i : ℕ) → length list ≤ i → marked (drop i list) ≡ 0
-unfolding marked
-none_behind [] i h = ap marked (drop-nil i)
-none_behind (r ∷ rs) zero h = absurd (not-suc-le-zero h)
-none_behind (r ∷ rs) (suc i) h = none_behind rs i (le_of_suc-le-suc h)
+pub marked_within : (list : List ObjectRecord) → marked list ≤ length list
+unfolding marked when◌then◌else◌
+marked_within [] = omega arith
+marked_within (r ∷ rs) = split (is_mark r) (marked_within rs)
+  where
+    split : (b : Bool) → marked rs ≤ length rs → (when b then suc (marked rs) else 0) ≤ suc (length rs)
+    split true k = omega (arith, k)
+    split false k = omega arith

@@ -1,7 +1,7 @@
 // The one-shot walk into a list of the function's own, which is handed back by value.
 #![tactic(auto)]
 
-ghost use Rattle.std.specs.Prelude.{◌≡◌, ◌+◌, min, drop};
+ghost use Rattle.std.specs.Prelude.{◌≡◌, ◌+◌, min, length, drop, take_while};
 ghost use Rattle.survey.specs.Survey.{survey_of};
 ghost use Rattle.oneshot.specs.OneShot.{with_room};
 ghost use Rattle.listing.specs.Listing.{most_places, list_after_lent, is_mark, marked};
@@ -10,35 +10,31 @@ use oneshot::walk;
 use streaming::{FlatHeader, ObjectRecord};
 use survey::Walked;
 
+// The places of the list.
+pub const PLACES: usize = 4096;
+
+// What every place holds before a walk.
+const MARK: ObjectRecord = ObjectRecord {
+    handle: 1,
+    offset: 2,
+    size: 0,
+    type_code: 3,
+};
+
 // What the walk answered, and the list behind it.
 #[derive(Clone, Copy)]
 pub struct Listed {
     pub walked: Walked,
-    pub list: [ObjectRecord; 4096],
+    pub list: [ObjectRecord; PLACES],
 }
 
-// The places that are lent: as many as are asked for, if the list has them.
-fn lent(places: usize) -> usize
-    ensures { result ≡ min places most_places }
-{
-    if places < 4096 {
-        return places;
-    }
-    4096
-}
-
-// The walk with so many places. Every place holds the same mark before it, and those that are not lent keep it.
+// The walk with so many places, or with all that the list has. Every place is marked before it, and those that are not lent keep the mark.
 pub fn fill(h: FlatHeader, src: &[u8], places: usize) -> Listed
     ensures { (result.walked ≡ with_room (min places most_places) (survey_of h src.now))
         × (result.list ≡ list_after_lent h src.now (min places most_places)) }
 {
-    let n = lent(places);
-    let mut list = [ObjectRecord {
-        handle: 1,
-        offset: 2,
-        size: 0,
-        type_code: 3,
-    }; 4096];
+    let mut list = [MARK; PLACES];
+    let n = places.min(PLACES);
     let walked = walk(h, src, &mut list[..n]);
     Listed { walked, list }
 }
@@ -46,20 +42,19 @@ pub fn fill(h: FlatHeader, src: &[u8], places: usize) -> Listed
 fn is_mark(r: ObjectRecord) -> bool
     ensures { result ≡ is_mark r }
 {
-    (r.handle == 1) & (r.offset == 2) & (r.size == 0) & (r.type_code == 3)
+    r == MARK
+}
+
+// How many places hold the mark, from a place on up to the first that does not.
+fn marked_from(list: &[ObjectRecord], at: usize) -> usize
+    ensures { result ≡ length (take_while is_mark (drop at list.now)) }
+{
+    list.iter().skip(at).take_while(|r| is_mark(**r)).count()
 }
 
 // The first place from a place on that does not hold the mark; behind the list's end there is none that does.
-pub fn first_other(list: [ObjectRecord; 4096], at: usize) -> usize
+pub fn first_other(list: [ObjectRecord; PLACES], at: usize) -> usize
     ensures { result ≡ at + marked (drop at list) }
 {
-    let mut i = at;
-    while i < 4096 {
-        let r = list[i];
-        if !is_mark(r) {
-            return i;
-        }
-        i += 1;
-    }
-    i
+    at + marked_from(&list, at)
 }

@@ -1,5 +1,5 @@
 -- Stage Object: what is asked for in an object, and what a piece of it does.
-use Rattle.std.specs.Prelude.{ℕ, ◌+◌, ◌*◌, ◌-◌, ◌%◌, ◌^◌, min, List, length, take, ltb, eqb}
+use Rattle.std.specs.Prelude.{ℕ, ◌+◌, ◌*◌, ◌-◌, ◌%◌, ◌^◌, min, List, length, take, ltb, eqb, Result, Ok, Err}
 use Rattle.std.proofs.Math.Option.{Option}
 use Rattle.std.proofs.lemmas.List.Edits.{sets}
 use Rattle.std.specs.Int.Bits.{bit_or}
@@ -10,7 +10,9 @@ use Rattle.streaming.specs.State.{in_unit, with_object, stepped, goes_on, fell}
 use Rattle.streaming.specs.declared.Request.{Request}
 use Rattle.streaming.specs.declared.Part.TheVariants as part
 use Rattle.streaming.specs.declared.Step.TheVariants as step
+use Rattle.streaming.specs.declared.Fault.{Fault}
 use Rattle.streaming.specs.declared.Fault.TheVariants as fault
+use Rattle.streaming.specs.declared.ObjectRecord.{ObjectRecord}
 use Rattle.streaming.specs.declared.Stage.TheVariants as stage
 use Rattle.streaming.specs.declared.FlatWalker.{FlatWalker}
 use Rattle.streaming.specs.declared.Fed.{Fed}
@@ -19,8 +21,6 @@ use Rattle.rules.specs.Header.{is_r2000}
 use Rattle.rules.specs.Prologue.{Prologue, prologue_of}
 use Rattle.rules.specs.Object.{is_last, may_start, may_end, Verdict, holds, fails, named}
 use Rattle.chunk.specs.Chunk.{enter_chunk}
-use Rattle.object.specs.declared.verdict.Judged.{Judged}
-use Rattle.object.specs.declared.verdict.Judged.TheVariants as judged
 
 -- ---- entering one, and what follows it
 
@@ -53,9 +53,9 @@ abbrev pub kept_prologue : FlatWalker → Option Prologue
 kept_prologue s = prologue_of (is_r2000 s.header) (take (min s.size 16) s.head)
 
 -- the code's word for the rules' verdict
-abbrev pub verdict_of : Judged → Verdict
-verdict_of (judged.Holds r) = holds r
-verdict_of (judged.Fails f) = fails f
+abbrev pub verdict_of : Result ObjectRecord Fault → Verdict
+verdict_of (Ok r) = holds r
+verdict_of (Err f) = fails f
 
 module _ (s : FlatWalker) where
   -- the size is known, and with it the object's end

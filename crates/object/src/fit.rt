@@ -3,14 +3,12 @@ ghost use Rattle.std.specs.Prelude.{◌≡◌, true, ◌<◌, ◌≤◌, ◌^◌
 ghost use Rattle.chunk.specs.Fit.{InChunk};
 ghost use Rattle.object.specs.Fit.{behind_entry, object_done, object_consistent, size_in_words, fit_object, FitObject};
 
-use crate::may_start;
 use crate::words::may_end;
+use crate::{FARTHEST, may_start};
 use streaming::FlatWalker;
 
-// The farthest location.
-const FARTHEST: u64 = i64::MAX as u64;
-
 // Whether an entry of the chunk is whole, and led here.
+#[tactic(auto, using(header::proofs::Bounds::map_end_below))]
 fn behind_entry(s: FlatWalker) -> bool
     requires { InChunk s.header s.map }
     ensures { (result ≡ behind_entry s) × (result ≡ true → s.object < 2 ^ 63) }
@@ -50,14 +48,10 @@ fn object_done(s: FlatWalker) -> bool
 pub fn object_consistent(s: FlatWalker) -> bool
     ensures { result ≡ object_consistent s }
 {
-    let h = s.header;
-    let m = s.map;
-    if chunk::in_chunk(h, m) {
-        if behind_entry(s) {
-            return object_done(s);
-        }
+    if !chunk::in_chunk(s.header, s.map) {
+        return false;
     }
-    false
+    behind_entry(s) && object_done(s)
 }
 
 // Whether the size is one that so many words can hold.
@@ -72,8 +66,5 @@ fn size_in_words(s: FlatWalker) -> bool
 pub fn fit_object(s: FlatWalker) -> bool
     ensures { (result ≡ fit_object s) × (result ≡ true → FitObject s) }
 {
-    if object_consistent(s) {
-        return size_in_words(s);
-    }
-    false
+    object_consistent(s) && size_in_words(s)
 }

@@ -1,31 +1,26 @@
--- Laws of `sets`, bytes put in place of others: one byte more, and some bytes more.
+-- Laws of `sets`, bytes put in place of others: some bytes more, and the front of a list.
 use Prim.Native.Nat.{ℕ, suc, ◌+◌, ◌-◌, ◌<◌, ◌≤◌}
 use mathlib.Core.Bool.{Bool, true, false}
 use mathlib.Core.Path.{◌≡◌, refl, ap, sym, ◌∙◌}
-use mathlib.Core.List.{List, [], ◌∷◌, ◌++◌}
-use lib.ListN.{length, set, get_or, take, drop}
-use lib.Seq.{sets, take-suc, take_all, take_at, take-append-le, take-append-add, length-take-le, sets-eq}
+use mathlib.Core.List.{List, [], ◌∷◌, ◌++◌, append_assoc}
+use lib.ListN.{length, set, take, drop}
+use lib.Seq.{sets, take_all, take_at, take-append-le, take-append-add, sets-eq, drop-drop}
 use lib.Dec.{leb}
+use borrow.Rule.Slice.PartMut.{put_mid}
 use borrow.Author.Tests.{leb-true, leb-false}
 use native.Mathlib.Nat.{add-zero, add-suc, suc-add}
-use native.Mathlib.Numerals.{add-one}
 use native.Mathlib.Omega.{arith}
 
 pub sets-append : (l : List ℕ) (i : ℕ) (a b : List ℕ) → sets (sets l i a) (i + length a) b ≡ sets l i (a ++ b)
 sets-append l i [] b = rw add-zero
 sets-append l i (v ∷ vs) b = rw (add-suc, ← suc-add) (sets-append (set l i v) (suc i) vs b)
 
--- a copy, one byte further
-pub sets_next : (l : List ℕ) (at : ℕ) (src : List ℕ) (i : ℕ) → i < length src
-    → set (sets l at (take i src)) (at + i) (get_or src i 0) ≡ sets l at (take (i + 1) src)
-sets_next l at src i h =
-    let n : length (take i src) ≡ i = length-take-le i src (omega arith) in
-    ap (λ (k : ℕ). set (sets l at (take i src)) (at + k) (get_or src i 0)) (sym n)
-    ∙ sets-append l at (take i src) (get_or src i 0 ∷ [])
-    ∙ rw (add-one, take-suc src i 0 h)
-
-pub sets-whole : (l : List ℕ) (at : ℕ) (src : List ℕ) (i : ℕ) → length src ≤ i → sets l at (take i src) ≡ sets l at src
-sets-whole l at src i h = rw (take_all i src h)
+-- a copy, as a write to a part leaves it
+pub sets_mid : (l : List ℕ) (at : ℕ) (src part : List ℕ) → at + length src ≤ length l → part ≡ src
+    → put_mid at (at + length src - at) l part ≡ sets l at src
+sets_mid l at src part h e =
+    let k : at + length src - at ≡ length src = omega arith in
+    rw (e, k, sets-eq src l at h, drop-drop, append_assoc)
 
 -- what was put at the front stands there
 pub take-sets : (l a : List ℕ) (n : ℕ) → length a ≡ n → n ≤ length l → take n (sets l 0 a) ≡ a

@@ -1,5 +1,5 @@
 -- Bytes: the numbers that they make, how long a thing is that counts its bytes, and whether two lists of them are the same.
-use Rattle.std.specs.Prelude.{ℕ, ◌+◌, ◌*◌, ◌^◌, Bool, true, false, ◌&&◌, List, [], ◌∷◌, length, take, drop, eqb, leb}
+use Rattle.std.specs.Prelude.{ℕ, ◌+◌, ◌*◌, ◌^◌, Bool, true, false, ◌&&◌, List, [], ◌∷◌, length, take, drop, eqb, leb, Option, Some, None}
 
 -- the lowest byte comes first
 unfoldable pub little_endian : List ℕ → ℕ
@@ -19,10 +19,10 @@ same (x ∷ xs) [] = false
 same (x ∷ xs) (y ∷ ys) = eqb x y && same xs ys
 
 -- so many bytes, if they are there
-abbrev pub if_there : Bool → ℕ → ℕ
-if_there true n = n
-if_there false n = 0
+abbrev pub if_there : Bool → ℕ → Option ℕ
+if_there true n = Some n
+if_there false n = None
 
--- how long a thing is that begins some bytes: the last four bytes of its front, from a place on, count the bytes behind it; 0 where it is cut short
-unfoldable pub counted_size : List ℕ → (at : ℕ) → ℕ
+-- how long a thing is that begins some bytes: the last four bytes of its front, from a place on, count the bytes behind it; none where it is cut short
+unfoldable pub counted_size : List ℕ → (at : ℕ) → Option ℕ
 counted_size s at = if_there (leb (at + 4 + little_endian (take 4 (drop at s))) (length s)) (at + 4 + little_endian (take 4 (drop at s)))

@@ -1,6 +1,5 @@
 pub mod Main
 pub mod Over
-pub mod Rest
 pub mod Reading
 pub mod Entries
 pub mod Near

@@ -4,6 +4,7 @@ use mathlib.Core.List.{List, ◌∷◌, ◌++◌}
 use Prim.Native.Nat.{ℕ, zero, suc, ◌≤◌, ◌<◌}
 use native.Mathlib.Omega.{arith}
 use lib.ListN.{length, set, take, drop, get_or, length-set}
+use Rattle.std.proofs.lemmas.List.{take-append-drop, set-append_left}
 use lib.Seq.{length-take-le, take-suc, take-length, drop-cons, set_at, append_snoc}
 
 module _ {A : Type 0} (f : ℕ → A) where
@@ -15,6 +16,13 @@ module _ {A : Type 0} (f : ℕ → A) where
   pub over-length : (i : ℕ) (xs : List A) → length (over i xs) ≡ length xs
   over-length zero xs = refl
   over-length (suc i) xs = length-set (over i xs) i (f i) ∙ over-length i xs
+
+  -- where only the front is at hand, the rest stays
+  pub over_take : (n : ℕ) (xs : List A) (i : ℕ) → i ≤ n → n ≤ length xs → over i (take n xs) ++ drop n xs ≡ over i xs
+  over_take n xs zero h k = take-append-drop n xs
+  over_take n xs (suc i) h k =
+      let m : length (over i (take n xs)) ≡ n = over-length i (take n xs) ∙ length-take-le n xs k in
+      sym (set-append_left (over i (take n xs)) (drop n xs) i (f i) (omega (arith, m))) ∙ ap (λ (ys : List A). set ys i (f i)) (over_take n xs i (omega arith) k)
 
   module _ (d : A) (l xs : List A) (are : (i : ℕ) → i < length l → f i ≡ get_or l i d) (room : length l ≤ length xs) where
     over_front : (n : ℕ) → n ≤ length l → over n xs ≡ take n l ++ drop n xs

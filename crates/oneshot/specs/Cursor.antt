@@ -1,5 +1,5 @@
 -- The objects of a map once more, one by one: what an entry leads to, with no check made again.
-use Rattle.std.specs.Prelude.{ℕ, zero, suc, ◌+◌, ◌-◌, Bool, List, length, take, leb, eqb}
+use Rattle.std.specs.Prelude.{ℕ, zero, suc, ◌+◌, ◌-◌, Bool, List, length, take, leb, eqb, Option, Some, None}
 use Rattle.streaming.specs.Choose.{when◌then◌else◌}
 use Rattle.streaming.specs.declared.FlatHeader.{FlatHeader}
 use Rattle.streaming.specs.declared.ObjectRecord.{ObjectRecord}
@@ -10,8 +10,7 @@ use Rattle.rules.specs.Prologue.{prologue_of}
 use Rattle.rules.specs.Object.{Size, sized, unending, size_at}
 use Rattle.rules.specs.Map.{chunk_size}
 use Rattle.records.specs.Answer.{head_of}
-use Rattle.records.specs.declared.Head.{Head}
-use Rattle.records.specs.declared.Head.TheVariants as head
+use Rattle.records.specs.declared.Opening.{Opening}
 use Rattle.oneshot.specs.declared.steps.Cursor.{Cursor}
 use Rattle.oneshot.specs.declared.steps.Visit.{Visit}
 
@@ -22,9 +21,9 @@ blank = record { handle = 0; offset = 0; size = 0; type_code = 0 }
 -- ---- the object that an entry leads to
 
 -- the record, by what `prologue` says of the data
-abbrev pub record_of_head : (handle location size : ℕ) → Head → ObjectRecord
-record_of_head handle location size head.Nothing = blank
-record_of_head handle location size (head.Read o) = record { handle = handle; offset = location; size = size; type_code = o.type_code }
+abbrev pub record_of_head : (handle location size : ℕ) → Option Opening → ObjectRecord
+record_of_head handle location size None = blank
+record_of_head handle location size (Some o) = record { handle = handle; offset = location; size = size; type_code = o.type_code }
 
 abbrev pub sized_at : (r2000 : Bool) (src : List ℕ) (handle location : ℕ) → Size → ObjectRecord
 sized_at r2000 src handle location unending = blank

@@ -1,32 +1,30 @@
 -- The one-shot walk: what it answers, and what the lent list holds behind it.
-use Rattle.std.specs.Prelude.{ℕ, List, [], ◌∷◌, ◌++◌, map, length, take, drop, leb}
-use Rattle.std.proofs.Math.Option.{Option, none, some}
+use Rattle.std.specs.Prelude.{ℕ, List, [], ◌∷◌, ◌++◌, map, length, take, drop, leb, Option, Some, None, Err}
+use Rattle.std.proofs.Math.Option as rules
 use Rattle.streaming.specs.Choose.{when◌then◌else◌}
 use Rattle.streaming.specs.Record.{Record, section, object}
 use Rattle.streaming.specs.declared.FlatHeader.{FlatHeader}
 use Rattle.streaming.specs.declared.ObjectRecord.{ObjectRecord}
 use Rattle.streaming.specs.declared.StreamError.{StreamError}
 use Rattle.streaming.specs.declared.StreamError.TheVariants as error
-use Rattle.streaming.specs.declared.Ended.TheVariants as ended
 use Rattle.rules.specs.Header.{start_refusal}
 use Rattle.rules.specs.PlainList.{plain_list}
 use Rattle.survey.specs.Survey.{objects_of, length_refusal}
-use Rattle.survey.specs.declared.SectionFound.{SectionFound}
-use Rattle.survey.specs.declared.SectionFound.TheVariants as section-found
+use Rattle.streaming.specs.declared.SectionRecord.{SectionRecord}
 use Rattle.survey.specs.declared.Walked.{Walked}
 
 -- More object records than places: 18 with their number, however the walk ends.
 unfoldable pub with_room : (places : ℕ) → Walked → Walked
 with_room places w =
     when leb w.count places then w
-    else record { vars = w.vars; classes = w.classes; count = 0; ending = ended.Refused (error.NoRoom w.count) }
+    else record { vars = w.vars; classes = w.classes; count = 0; ending = Err (error.NoRoom w.count) }
 
 -- ---- the list
 
 -- none where nothing is walked
-abbrev pub unless_refused : Option StreamError → List ObjectRecord → List ObjectRecord
-unless_refused none objects = objects
-unless_refused (some e) objects = []
+abbrev pub unless_refused : rules.Option StreamError → List ObjectRecord → List ObjectRecord
+unless_refused rules.none objects = objects
+unless_refused (rules.some e) objects = []
 
 -- the objects that the rules commit in a source of the header's length
 unfoldable pub objects_for : FlatHeader → (src : List ℕ) → List ObjectRecord
@@ -41,9 +39,9 @@ list_after h src list = front_of list (objects_for h src)
 
 -- ---- what a caller reads
 
-abbrev pub found : SectionFound → List Record
-found section-found.None = []
-found (section-found.Record r) = section r ∷ []
+abbrev pub found : Option SectionRecord → List Record
+found None = []
+found (Some r) = section r ∷ []
 
 -- from the answer the sections, then from the list as many objects as the answer counts
 abbrev pub read_from : Walked → (list : List ObjectRecord) → List Record

@@ -1,14 +1,14 @@
 // The one-shot walk: the whole source in hand, one call, and the object records in a list that the caller lends.
 #![tactic(auto)]
 
-ghost use Rattle.std.specs.Prelude.{◌≡◌, length};
+ghost use Rattle.std.specs.Prelude.{◌≡◌, ◌≤◌, length};
 ghost use Rattle.survey.specs.Survey.{survey_of};
 ghost use Rattle.oneshot.specs.Cursor.{first_cursor};
 ghost use Rattle.oneshot.specs.OneShot.{with_room, list_after};
 
 use header::{is_r2000, map_start};
 use steps::{Cursor, next_of};
-use streaming::{Ended, FlatHeader, ObjectRecord, StreamError};
+use streaming::{FlatHeader, ObjectRecord, StreamError};
 use survey::{Walked, survey};
 
 mod objects;
@@ -16,22 +16,23 @@ mod steps;
 
 // More object records than places are answered with their number, and none is written.
 fn with_room(places: usize, w: Walked) -> Walked
-    ensures { result ≡ with_room places w }
+    ensures answer { result ≡ with_room places w }
+    ensures fits { result.count ≤ places }
 {
-    let count = w.count;
-    if count <= places {
+    if w.count <= places {
         return w;
     }
     Walked {
         count: 0,
-        ending: Ended::Refused(StreamError::NoRoom(count as u64)),
+        ending: Err(StreamError::NoRoom(w.count as u64)),
         ..w
     }
 }
 
 // All that a walk answers, for a list of so many places.
 fn answer_of(h: FlatHeader, src: &[u8], places: usize) -> Walked
-    ensures { result ≡ with_room places (survey_of h src.now) }
+    ensures answer { result ≡ with_room places (survey_of h src.now) }
+    ensures fits { result.count ≤ places }
 {
     with_room(places, survey(h, src))
 }
@@ -56,14 +57,12 @@ pub fn walk(h: FlatHeader, src: &[u8], list: &mut [ObjectRecord]) -> Walked
         × (list.new ≡ list_after h src.now list.old) }
 {
     let w = answer_of(h, src, list.len());
-    let n = w.count;
     let mut c = first_of(h);
-    let mut i: usize = 0;
-    while i < n {
+    let front = &mut list[..w.count];
+    for place in front.iter_mut() {
         let v = next_of(src, c);
-        list[i] = v.object;
+        *place = v.object;
         c = v.next;
-        i += 1;
     }
     w
 }

@@ -4,7 +4,7 @@ ghost use Rattle.oneshot.specs.Cursor.{opened_of, in_hand, step_of};
 
 use crate::objects::{blank, record_at};
 use streaming::ObjectRecord;
-use survey::entries::{EntryRead, entry_at};
+use survey::entries::entry_at;
 use survey::sums::be16_at;
 
 // Where the filling stands in the map: the place of the next chunk, the entries that are left of the one in hand, and what the last entry led to.
@@ -29,16 +29,13 @@ pub struct Visit {
 fn opened(src: &[u8], c: Cursor) -> Cursor
     ensures { result ≡ opened_of src.now c }
 {
-    let len = src.len();
     let chunk = c.chunk;
-    if len <= chunk {
-        return c;
-    }
-    if len - chunk < 2 {
+    let left = src.len().saturating_sub(chunk);
+    if left < 2 {
         return c;
     }
     let size = be16_at(src, chunk) as usize;
-    if len - chunk < size + 2 {
+    if left < size + 2 {
         return c;
     }
     Cursor {
@@ -68,21 +65,16 @@ pub fn next_of(src: &[u8], c: Cursor) -> Visit
 {
     let c = in_hand(src, c);
     match entry_at(src, c.at, c.end, c.handle, c.location) {
-        EntryRead::Leads {
-            bytes,
-            handle,
-            location,
-        } => {
-            let object = record_at(src, c.r2000, handle, location);
-            let next = Cursor {
-                at: c.at + bytes,
-                handle: handle,
-                location: location,
+        Ok(entry) => Visit {
+            object: record_at(src, c.r2000, entry.handle, entry.location),
+            next: Cursor {
+                at: c.at + entry.bytes,
+                handle: entry.handle,
+                location: entry.location,
                 ..c
-            };
-            Visit { object, next }
-        }
-        EntryRead::Refused(_) => Visit {
+            },
+        },
+        Err(_) => Visit {
             object: blank(),
             next: c,
         },

@@ -1,23 +1,24 @@
 -- The fields of a prologue, taken one by one, make the prologue of the rules. The rules stop at the first field that is missing; here the handle is looked for in any case, and is missing too.
-use mathlib.Core.Path.{◌≡◌, sym, ◌∙◌, ap}
+use mathlib.Core.Path.{◌≡◌, refl, sym, ◌∙◌, ap}
 use mathlib.Core.Bool.{Bool, true, false}
 use mathlib.Core.List.{List}
-use mathlib.Core.Option.{Option, none, some}
+use mathlib.Core.Option.{none, some}
+use mathlib.Core.Option as rules
 use Prim.Native.Nat.{ℕ, zero, suc, ◌+◌, ◌*◌, ◌^◌, ◌<◌, ◌≤◌}
 use native.Mathlib.Nat.{zero-add, add_assoc}
 use native.Mathlib.Omega.{arith}
 use lib.Dec.{ltb}
 use lib.ListN.{length}
 use borrow.Author.Tests.{ne_eqb, leb-true, leb-false, ltb-true, ltb-false}
+use Rattle.std.specs.Prelude.{Option, Some, None}
 use Rattle.streaming.specs.Choose.{when◌then◌else◌}
 use Rattle.streaming.proofs.Choose.{in_both}
 use Rattle.rules.specs.Prologue.{Prologue, bits_at, reading, reading_handle, behind_type, reading_type, prologue_of}
 use Rattle.records.specs.Bits.{taken_at, number}
 use Rattle.records.specs.Fields.{type_width, type_of, gap_width, head_with}
 use Rattle.records.specs.Answer.{head_of}
-use Rattle.records.specs.declared.Taken.{Taken}
-use Rattle.records.specs.declared.Head.{Head}
-use Rattle.records.proofs.Bits.{bits_lt, bits_join, too_many, too_few, taken}
+use Rattle.records.specs.declared.Opening.{Opening}
+use Rattle.records.proofs.Bits.{bits_lt, bits_join, too_many, too_few, taken, none_behind}
 
 -- how wide the fields before the count are at most
 pub width_most : (code : ℕ) → type_width code ≤ 16
@@ -29,13 +30,17 @@ unfolding gap_width when◌then◌else◌
 gap_most true = omega arith
 gap_most false = omega arith
 
+-- where the count stands
+abbrev pub at_count : (r2000 : Bool) (code : ℕ) → ℕ
+at_count r2000 code = 2 + (type_width code + gap_width r2000)
+
 module _ (bytes : List ℕ) where
   -- the handle, where its count stands at a place
-  abbrev handle_at : ℕ → Taken
+  abbrev handle_at : ℕ → Option ℕ
   handle_at at = taken_at bytes (at + 4) (8 * number (taken_at bytes at 4))
 
   -- a reading gives x, where what is read on gives x and none does
-  either : (x : Head) (at n : ℕ) (go_on : (number behind : ℕ) → Option Prologue)
+  either : (x : Option Opening) (at n : ℕ) (go_on : (number behind : ℕ) → rules.Option Prologue)
       → (at + n ≤ 8 * length bytes → head_of (go_on (bits_at bytes at n) (at + n)) ≡ x) → (8 * length bytes < at + n → head_of none ≡ x) → head_of (reading bytes at n go_on) ≡ x
   unfolding reading
   either x at n go_on there short = in_both (λ o. head_of o ≡ x) _ (λ e. there (leb-true _ _ e)) (λ e. short (leb-false _ _ e))
@@ -82,7 +87,7 @@ module _ (bytes : List ℕ) where
 
   module _ (r2000 : Bool) where
     -- the type, and the handle behind it and the gap
-    abbrev TypeRead : (code at : ℕ) → Option Prologue → Type 0
+    abbrev TypeRead : (code at : ℕ) → rules.Option Prologue → Type 0
     TypeRead code at o = head_of o ≡ head_with code (number (taken_at bytes at (type_width code))) (handle_at (at + (type_width code + gap_width r2000)))
 
     type_there : (code at : ℕ) → at + 220 < 2 ^ 64 → at + type_width code ≤ 8 * length bytes
@@ -133,3 +138,27 @@ module _ (bytes : List ℕ) where
       sym (either _ 0 2 _
       (λ there. rw (← taken bytes 0 2 (omega arith) (omega arith) there) (type_read r2000 (bits_at bytes 0 2) 2 (omega arith)))
       (λ short. no_handle code _ (2 + (type_width code + gap_width r2000)) (omega (arith, width_most code, gap_most r2000)) (omega arith)))
+
+  module _ (r2000 : Bool) where
+    -- where bits before the handle are not there, there is no prologue
+    cut_short : (k at n : ℕ) → k ≡ number (taken_at bytes 0 2) → n ≤ 64 → at + n ≤ at_count r2000 k + 4 → None ≡ taken_at bytes at n → None ≡ head_of (prologue_of r2000 bytes)
+    cut_short k at n is few before e =
+        let gone : (m : ℕ) → None ≡ taken_at bytes (at_count r2000 k + 4) m = λ m. none_behind bytes at n (at_count r2000 k + 4) m few before (omega (arith, width_most k, gap_most r2000)) e in
+        rw (← is, ← gone _) at (prologue_read r2000)
+
+    pub no_code : None ≡ taken_at bytes 0 2 → None ≡ head_of (prologue_of r2000 bytes)
+    no_code e = cut_short _ 0 2 refl (omega arith) (omega arith) e
+
+    pub no_bits : {k : ℕ} → Some k ≡ taken_at bytes 0 2 → None ≡ taken_at bytes 2 (type_width k) → None ≡ head_of (prologue_of r2000 bytes)
+    no_bits {k = k} c e = cut_short k 2 (type_width k) (ap number c) (omega (arith, width_most k)) (omega arith) e
+
+    pub no_count : {k : ℕ} → Some k ≡ taken_at bytes 0 2 → None ≡ taken_at bytes (at_count r2000 k) 4 → None ≡ head_of (prologue_of r2000 bytes)
+    no_count {k = k} c e = cut_short k (at_count r2000 k) 4 (ap number c) (omega arith) (omega arith) e
+
+    pub handle_missing : {k count : ℕ} → Some k ≡ taken_at bytes 0 2 → Some count ≡ taken_at bytes (at_count r2000 k) 4 → None ≡ taken_at bytes (at_count r2000 k + 4) (8 * count) → None ≡ head_of (prologue_of r2000 bytes)
+    handle_missing c n h = rw (← c, ← n, ← h) at (prologue_read r2000)
+
+    -- where all are there, they make the prologue
+    pub all_read : {k bits count handle : ℕ} → Some k ≡ taken_at bytes 0 2 → Some bits ≡ taken_at bytes 2 (type_width k) → Some count ≡ taken_at bytes (at_count r2000 k) 4
+        → Some handle ≡ taken_at bytes (at_count r2000 k + 4) (8 * count) → Some (record { type_code = type_of k bits; handle = handle }) ≡ head_of (prologue_of r2000 bytes)
+    all_read c b n h = rw (← c, ← b, ← n, ← h) at (prologue_read r2000)

@@ -1,10 +1,7 @@
 -- The fields of a prologue as `prologue` reads them: how many bits each has, and what they make together.
-use Rattle.std.specs.Prelude.{ℕ, ◌+◌, ◌*◌, ◌/◌, ◌%◌, Bool, eqb}
+use Rattle.std.specs.Prelude.{ℕ, ◌+◌, ◌*◌, ◌/◌, ◌%◌, Bool, eqb, Option, Some, None}
 use Rattle.streaming.specs.Choose.{when◌then◌else◌}
-use Rattle.records.specs.declared.Taken.{Taken}
-use Rattle.records.specs.declared.Taken.TheVariants.{Bits, Nothing}
-use Rattle.records.specs.declared.Head.{Head}
-use Rattle.records.specs.declared.Head.TheVariants.{Nothing as NoHead, Read}
+use Rattle.records.specs.declared.Opening.{Opening}
 
 -- how many bits the type has, by its code
 unfoldable pub type_width : (code : ℕ) → ℕ
@@ -23,6 +20,6 @@ unfoldable pub gap_width : (r2000 : Bool) → ℕ
 gap_width r2000 = when r2000 then 36 else 4
 
 -- the answer: none where the handle is not there
-abbrev pub head_with : (code bits : ℕ) (handle : Taken) → Head
-head_with code bits Nothing = NoHead
-head_with code bits (Bits handle) = Read (record { type_code = type_of code bits; handle = handle })
+abbrev pub head_with : (code bits : ℕ) (handle : Option ℕ) → Option Opening
+head_with code bits None = None
+head_with code bits (Some handle) = Some (record { type_code = type_of code bits; handle = handle })

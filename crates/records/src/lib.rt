@@ -3,13 +3,13 @@
 
 ghost use Rattle.std.specs.Prelude.{◌≡◌, ◌+◌, ◌*◌, ◌/◌, ◌^◌, ◌<◌, length};
 ghost use Rattle.rules.specs.Prologue.{bit_at, prologue_of};
-ghost use Rattle.records.specs.Bits.{taken_at, number, further};
+ghost use Rattle.records.specs.Bits.{taken_at};
 ghost use Rattle.records.specs.Reader.{reader_at, skipped};
-ghost use Rattle.records.specs.Fields.{type_width, type_of, gap_width, head_with};
+ghost use Rattle.records.specs.Fields.{type_width, type_of, gap_width};
 ghost use Rattle.records.specs.Answer.{of_r2000, head_of};
 
 // How the data begins, by release.
-#[derive(Clone, Copy)]
+#[derive(Clone, Copy, PartialEq, Eq)]
 pub enum RecordFormat {
     // R13 and R14: the type, then the handle.
     R14,
@@ -17,25 +17,36 @@ pub enum RecordFormat {
     R2000,
 }
 
+// Whether it is R2000 says which.
+impl From<bool> for RecordFormat {
+    ghost from_gives = { λ r2000 format. of_r2000 format ≡ r2000 };
+
+    fn from(r2000: bool) -> RecordFormat {
+        if r2000 {
+            return RecordFormat::R2000;
+        }
+        RecordFormat::R14
+    }
+}
+
+impl RecordFormat {
+    // How many bits are skipped between the type and the handle's count.
+    #[tactic(auto, using(crate::proofs::Tests::choices), unfolding(crate::specs::Fields::gap_width))]
+    fn gap_width(self) -> usize
+        ensures { result ≡ gap_width (of_r2000 self) }
+    {
+        match self {
+            RecordFormat::R14 => 4,
+            RecordFormat::R2000 => 36,
+        }
+    }
+}
+
 // What an object's data begins with.
-#[derive(Clone, Copy)]
+#[derive(Clone, Copy, PartialEq, Eq)]
 pub struct Opening {
     pub type_code: u16,
     pub handle: u64,
-}
-
-// The answer to `prologue`: none where the bits run out, or where the handle is said to be longer than eight bytes.
-#[derive(Clone, Copy)]
-pub enum Head {
-    Nothing,
-    Read(Opening),
-}
-
-// The answer to `take`: the number that the bits make, or none where they run out.
-#[derive(Clone, Copy)]
-pub enum Taken {
-    Nothing,
-    Bits(u64),
 }
 
 // A reader of bits: the bytes that it was lent, and the place of the bit that comes next.
@@ -45,18 +56,13 @@ pub struct BitReader<'a> {
     pub at: usize,
 }
 
-fn wide(b: u8) -> u64
-    ensures { result ≡ b }
-{
-    b as u64
-}
-
 // The bit at a place, the most significant bit of each byte first.
+#[tactic(auto, using(crate::proofs::Tests::masks), unfolding(rules::specs::Prologue::bit_at))]
 fn bit_at(bytes: &[u8], at: usize) -> u64
     requires { at / 8 < length bytes.now }
     ensures { result ≡ bit_at bytes.now at }
 {
-    (wide(bytes[at / 8]) >> (7 - at % 8)) & 1
+    (u64::from(bytes[at / 8]) >> (7 - at % 8)) & 1
 }
 
 // A number with one more bit at its end.
@@ -67,45 +73,23 @@ fn push(value: u64, bit: u64) -> u64
     (value << 1) | bit
 }
 
-// The number of two bytes.
-fn word(low: u64, high: u64) -> u16
-    requires { (low < 256) × (high < 256) }
-    ensures { result ≡ low + 256 * high }
-{
-    ((high << 8) | low) as u16
-}
-
 // The n bits at a place: at most 64, and none behind the last place that a usize can tell.
-pub fn take_at(bytes: &[u8], at: usize, n: usize) -> Taken
+#[tactic(auto, using(crate::proofs::Bits::taking), unfolding(rules::specs::Prologue::bits_at))]
+pub fn take_at(bytes: &[u8], at: usize, n: usize) -> Option<u64>
     ensures { result ≡ taken_at bytes.now at n }
 {
     if n > 64 {
-        return Taken::Nothing;
+        return None;
     }
-    if at > usize::MAX - n {
-        return Taken::Nothing;
-    }
-    let end = at + n;
-    if bytes.len() < end / 8 + (end % 8 + 7) / 8 {
-        return Taken::Nothing;
+    let end = at.checked_add(n)?;
+    if bytes.len() < end.div_ceil(8) {
+        return None;
     }
     let mut value = 0;
-    let mut i = 0;
-    while i < n {
+    for i in 0..n {
         value = push(value, bit_at(bytes, at + i));
-        i += 1;
     }
-    Taken::Bits(value)
-}
-
-// The place n bits further on, or the last one.
-fn further_on(at: usize, n: usize) -> usize
-    ensures { result ≡ further at n }
-{
-    if at > usize::MAX - n {
-        return usize::MAX;
-    }
-    at + n
+    Some(value)
 }
 
 impl<'a> BitReader<'a> {
@@ -117,103 +101,63 @@ impl<'a> BitReader<'a> {
     }
 
     // The next n bits. The reader stays where it is.
-    pub fn take(self, n: usize) -> Taken
+    pub fn take(self, n: usize) -> Option<u64>
         ensures { result ≡ taken_at self.entry.bytes.now self.entry.at n }
     {
         take_at(self.bytes, self.at, n)
     }
 
     // The reader behind the next n bits, whether they are there or not.
+    #[tactic(auto, using(crate::proofs::Bits::further_is))]
     pub fn skip(self, n: usize) -> BitReader<'a>
         ensures { result ≡ skipped self.entry n }
     {
         BitReader {
             bytes: self.bytes,
-            at: further_on(self.at, n),
+            at: self.at.saturating_add(n),
         }
     }
 }
 
-// The number that was taken, 0 for none.
-fn number_of(taken: Taken) -> u64
-    ensures { result ≡ number taken }
-{
-    match taken {
-        Taken::Nothing => 0,
-        Taken::Bits(value) => value,
-    }
-}
-
 // How many bits the type has, by its code.
-fn type_width(code: Taken) -> usize
-    ensures { result ≡ type_width (number code) }
+#[tactic(auto, using(crate::proofs::Tests::choices), unfolding(crate::specs::Fields::type_width))]
+fn type_width(code: u64) -> usize
+    ensures { result ≡ type_width code }
 {
-    let code = number_of(code);
-    if code == 0 {
-        return 16;
+    match code {
+        0 => 16,
+        1 => 8,
+        _ => 0,
     }
-    if code == 1 {
-        return 8;
-    }
-    0
-}
-
-// How many bits are skipped between the type and the handle's count.
-fn gap_width(format: RecordFormat) -> usize
-    ensures { result ≡ gap_width (of_r2000 format) }
-{
-    match format {
-        RecordFormat::R14 => 4,
-        RecordFormat::R2000 => 36,
-    }
-}
-
-// How many bits the handle has.
-fn handle_width(count: Taken) -> usize
-    requires { number count < 16 }
-    ensures { result ≡ 8 * number count }
-{
-    8 * number_of(count) as usize
 }
 
 // The type, by its code and its bits: the low byte stands first where it has two.
+#[tactic(auto, using(crate::proofs::Tests::choices, crate::proofs::Tests::masks), unfolding(crate::specs::Fields::type_of))]
 fn type_of(code: u64, bits: u64) -> u16
     ensures { result ≡ type_of code bits }
 {
-    if code == 0 {
-        return word((bits >> 8) & 255, bits & 255);
+    match code {
+        0 => u16::from_le_bytes([((bits >> 8) & 255) as u8, (bits & 255) as u8]),
+        1 => (bits & 255) as u16,
+        2 => 0,
+        _ => 256,
     }
-    if code == 1 {
-        return (bits & 255) as u16;
-    }
-    if code == 2 {
-        return 0;
-    }
-    256
 }
 
-// The answer, by what was taken for the type's code, the type and the handle. The handle stands last: if its bits are there, all are.
-fn head_with(code: Taken, bits: Taken, handle: Taken) -> Head
-    ensures { result ≡ head_with (number code) (number bits) handle }
-{
-    let Taken::Bits(handle) = handle else {
-        return Head::Nothing;
-    };
-    let type_code = type_of(number_of(code), number_of(bits));
-    Head::Read(Opening { type_code, handle })
-}
-
-// The type and the handle that an object's data begins with. A count above 8 is more than 64 bits of handle, which are never taken.
-pub fn prologue(head: &[u8], format: RecordFormat) -> Head
+// The type and the handle that an object's data begins with; none where the bits run out.
+// A count above 8 is more than 64 bits of handle, which are never taken.
+#[tactic(auto, using(crate::proofs::Places::going_on))]
+pub fn prologue(head: &[u8], format: RecordFormat) -> Option<Opening>
     ensures { result ≡ head_of (prologue_of (of_r2000 format) head.now) }
 {
     let start = BitReader::new(head);
-    let code = start.take(2);
-    let behind_code = start.skip(2);
+    let code = start.take(2)?;
+    let at_type = start.skip(2);
     let width = type_width(code);
-    let bits = behind_code.take(width);
-    let at_count = behind_code.skip(width + gap_width(format));
-    let count = at_count.take(4);
-    let handle = at_count.skip(4).take(handle_width(count));
-    head_with(code, bits, handle)
+    let bits = at_type.take(width)?;
+    let at_count = at_type.skip(width + format.gap_width());
+    let count = at_count.take(4)?;
+    let handle = at_count.skip(4).take(8 * count as usize)?;
+    let type_code = type_of(code, bits);
+    Some(Opening { type_code, handle })
 }

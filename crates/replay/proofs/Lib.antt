@@ -1,3 +1,2 @@
 pub mod Whole
-pub mod Copied
-pub mod Operations
+pub mod Behind

@@ -1,43 +1,39 @@
 -- What the bytes behind `H` and `W` say: a header, and a state with no failure held. Numbers have their lowest byte first.
-use Rattle.std.specs.Prelude.{ℕ, ◌+◌, List, [], ◌∷◌, take, drop, get_or, eqb}
-use Rattle.streaming.specs.Choose.{when◌then◌else◌}
+use Rattle.std.specs.Prelude.{ℕ, List, [], ◌∷◌, take, drop, get_or, eqb, None, if◌then◌else◌}
 use Rattle.streaming.specs.declared.Locator.{Locator}
 use Rattle.streaming.specs.declared.FlatHeader.{FlatHeader}
 use Rattle.streaming.specs.declared.MapCursor.{MapCursor}
 use Rattle.streaming.specs.declared.Stage.{Stage}
 use Rattle.streaming.specs.declared.Stage.TheVariants as stage
-use Rattle.streaming.specs.declared.Failure.TheVariants as failure
 use Rattle.streaming.specs.declared.FlatWalker.{FlatWalker}
-use Rattle.octets.specs.Octets.{little_endian}
+-- the number that n bytes at a place make, and the locator, 9 bytes
+pub use Rattle.form.specs.Form.{number_at, locator_at}
 
--- n bytes at a place, and the number that they make
+-- n bytes at a place
 abbrev pub bytes_at : List ℕ → (at n : ℕ) → List ℕ
 bytes_at s at n = take n (drop at s)
 
-abbrev pub number_at : List ℕ → (at n : ℕ) → ℕ
-number_at s at n = little_endian (bytes_at s at n)
+-- six locators, whatever the count
+unfoldable pub locators_in : List ℕ → List Locator
+locators_in s = locator_at s 8 ∷ locator_at s 17 ∷ locator_at s 26 ∷ locator_at s 35 ∷ locator_at s 44 ∷ locator_at s 53 ∷ []
 
--- a locator, 9 bytes
-abbrev pub locator_at : List ℕ → ℕ → Locator
-locator_at s at = record { number = get_or s at 0; offset = number_at s (at + 1) 4; size = number_at s (at + 5) 4 }
-
--- a header, 69 bytes at place 1: six locators, whatever the count
+-- a header, 69 bytes at place 1
 unfoldable pub header_in : List ℕ → FlatHeader
 header_in s = record {
   magic = bytes_at s 1 6;
   count = get_or s 7 0;
-  locators = locator_at s 8 ∷ locator_at s 17 ∷ locator_at s 26 ∷ locator_at s 35 ∷ locator_at s 44 ∷ locator_at s 53 ∷ [];
+  locators = locators_in s;
   length = number_at s 62 8;
 }
 
 -- 1 to 6, in the walk's order
 unfoldable pub stage_in : ℕ → Stage
 stage_in n =
-    when eqb n 1 then stage.Vars else
-    (when eqb n 2 then stage.Classes else
-    (when eqb n 3 then stage.Chunk else
-    (when eqb n 4 then stage.Entry else
-    (when eqb n 5 then stage.Object else stage.Done))))
+    if eqb n 1 then stage.Vars else
+    (if eqb n 2 then stage.Classes else
+    (if eqb n 3 then stage.Chunk else
+    (if eqb n 4 then stage.Entry else
+    (if eqb n 5 then stage.Object else stage.Done))))
 
 -- the map's cursor, 46 bytes at place 111
 unfoldable pub cursor_in : List ℕ → MapCursor
@@ -66,5 +62,5 @@ state_in s = record {
   ms_len = get_or s 109 0;
   words = get_or s 110 0;
   map = cursor_in s;
-  failure = failure.None;
+  failure = None;
 }

@@ -1,155 +1,78 @@
 // Operations: what each answers, and the walk that is in hand after it.
-ghost use Rattle.std.specs.Prelude.{◌≡◌, [], true, false, ◌+◌, ◌≤◌, ◌<◌, length};
-ghost use Rattle.lines.specs.Line.{line_of, text_of};
-ghost use Rattle.flat.specs.Flat.{start_of};
+ghost use Rattle.std.specs.Prelude.{◌≡◌, ◌+◌, ◌≤◌, length, IsSome};
+ghost use Rattle.lines.specs.Line.{text_of};
 ghost use Rattle.replay.specs.Form.{size_of};
-ghost use Rattle.replay.specs.Parse.{number_at, header_in, state_in};
-ghost use Rattle.replay.specs.Answers.{start_line, fed_line, is_begun, fed_by, ask_line, answer_line, hand_of, hand_after};
+ghost use Rattle.replay.specs.Parse.{number_at};
+ghost use Rattle.replay.specs.Answers.{fed_by, ask_line, answer_line, hand_after};
 
 use crate::{parse, said};
-use lines::{Line, bare};
+use lines::Line;
 use octets::number_at;
-use streaming::{Fed, FlatWalker, Start};
+use streaming::{Fed, FlatWalker};
 
-// The walk that is in hand, if there is one.
-#[derive(Clone, Copy)]
-pub struct Hand {
-    pub held: bool,
-    pub state: FlatWalker,
-}
-
-#[derive(Clone, Copy)]
+#[derive(Drop)]
 pub struct Answered {
     pub line: Line,
-    pub hand: Hand,
+    // The walk that is in hand, if there is one.
+    pub hand: Option<FlatWalker>,
 }
 
-// No walk in hand; the state is not to be used.
-pub fn empty_hand() -> Hand
-    ensures { result.held ≡ false }
-{
-    let zeros = [0u8; 157];
-    Hand {
-        held: false,
-        state: parse::state(&zeros),
-    }
-}
-
-fn is_begun(a: Start) -> bool
-    ensures { result ≡ is_begun a }
-{
-    match a {
-        Start::Begun => true,
-        Start::Refused(_) => false,
-    }
-}
-
-fn begin(s: &[u8]) -> Answered
-    requires { 70 ≤ length s.now }
-    ensures line_value { text_of result.line ≡ start_line (start_of (header_in s.now)).answer }
-    ensures hand_value { result.hand ≡ hand_of (is_begun (start_of (header_in s.now)).answer) (start_of (header_in s.now)).state }
-{
-    let started = flat::start(parse::header(s));
-    let answer = started.answer;
-    let line = said::started(answer);
-    let held = is_begun(answer);
-    let state = started.state;
-    Answered {
-        line: line,
-        hand: Hand {
-            held: held,
-            state: state,
-        },
-    }
-}
-
-fn feed(state: FlatWalker, s: &[u8]) -> Fed
+#[tactic(auto, unfolding(crate::specs::Answers::fed_by))]
+fn feed(walk: FlatWalker, s: &[u8]) -> Fed
     requires { 13 + number_at s.now 9 4 ≤ length s.now }
-    ensures { result ≡ fed_by state s.now }
+    ensures { result ≡ fed_by walk s.now }
 {
     let offset = number_at(s, 1, 8);
     let n = number_at(s, 9, 4) as usize;
-    let end = 13 + n;
-    flat::feed(state, offset, &s[13..end])
-}
-
-fn go_on(state: FlatWalker, s: &[u8]) -> Answered
-    requires { 13 + number_at s.now 9 4 ≤ length s.now }
-    ensures line_value { text_of result.line ≡ fed_line (fed_by state s.now).answer }
-    ensures hand_value { result.hand ≡ hand_of true (fed_by state s.now).state }
-{
-    let fed = feed(state, s);
-    let answer = fed.answer;
-    let line = said::fed(answer);
-    let next = fed.state;
-    Answered {
-        line: line,
-        hand: Hand {
-            held: true,
-            state: next,
-        },
-    }
-}
-
-fn take_in(s: &[u8]) -> Answered
-    requires { 157 ≤ length s.now }
-    ensures line_value { text_of result.line ≡ line_of 87 [] }
-    ensures hand_value { result.hand ≡ hand_of true (state_in s.now) }
-{
-    let line = bare(b'W');
-    let state = parse::state(s);
-    Answered {
-        line: line,
-        hand: Hand {
-            held: true,
-            state: state,
-        },
-    }
+    flat::feed(walk, offset, &s[13..13 + n])
 }
 
 // What leaves the walk as it is.
-fn ask(state: FlatWalker, letter: u8) -> Line
-    ensures { text_of result ≡ ask_line state letter }
+#[tactic(auto, unfolding(crate::specs::Answers::ask_line))]
+fn ask(walk: FlatWalker, letter: u8) -> Line
+    ensures { text_of result ≡ ask_line walk letter }
 {
-    if letter == b'R' {
-        return said::asked(flat::request(state));
+    match letter {
+        b'R' => said::asked(flat::request(walk)),
+        b'N' => said::ended(flat::end_of_input(walk)),
+        b'C' => said::yes(flat::consistent(walk)),
+        _ => said::yes(flat::fit(walk)),
     }
-    if letter == b'N' {
-        return said::ended(flat::end_of_input(state));
-    }
-    if letter == b'C' {
-        return said::yes(flat::consistent(state));
-    }
-    said::yes(flat::fit(state))
 }
 
 // The operation that begins s.
-pub fn answer(hand: Hand, s: &[u8]) -> Answered
-    requires { 0 < size_of s.now }
+#[tactic(auto, using(crate::proofs::Behind::behind), unfolding(crate::specs::Answers::answer_line, crate::specs::Answers::hand_after))]
+pub fn answer(hand: Option<FlatWalker>, s: &[u8]) -> Answered
+    requires { IsSome (size_of s.now) }
     ensures line_value { text_of result.line ≡ answer_line hand s.now }
     ensures hand_value { result.hand ≡ hand_after hand s.now }
 {
-    let letter = s[0];
-    if letter == b'H' {
-        return begin(s);
-    }
-    if letter == b'W' {
-        return take_in(s);
-    }
-    let state = hand.state;
-    if hand.held {
-        if letter == b'F' {
-            return go_on(state, s);
+    match (s[0], hand) {
+        (b'H', _) => {
+            let started = flat::start(parse::header(s));
+            Answered {
+                line: said::started(started),
+                hand: started.ok(),
+            }
         }
-        let line = ask(state, letter);
-        return Answered {
-            line: line,
-            hand: hand,
-        };
-    }
-    let line = bare(b'-');
-    Answered {
-        line: line,
-        hand: hand,
+        (b'W', _) => Answered {
+            line: Line::new(b'W', &[]),
+            hand: Some(parse::state(s)),
+        },
+        (_, None) => Answered {
+            line: Line::new(b'-', &[]),
+            hand,
+        },
+        (b'F', Some(walk)) => {
+            let fed = feed(walk, s);
+            Answered {
+                line: said::fed(fed.answer),
+                hand: Some(fed.state),
+            }
+        }
+        (letter, Some(walk)) => Answered {
+            line: ask(walk, letter),
+            hand,
+        },
     }
 }

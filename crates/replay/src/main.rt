@@ -2,32 +2,25 @@
 #![tactic(auto)]
 
 mod answer;
-mod form;
+mod operations;
 mod parse;
 mod said;
 
+use answer::Answered;
 use std::io;
-use std::io::{Read, Write};
+use std::io::Read;
 
-fn print(rt: &impl Print, line: lines::Line) -> io::Result<()> {
-    let mut out = [0u8; 160];
-    let n = lines::put(line, &mut out);
-    io::writer(rt).write_all(&out[..n])
-}
+// The most bytes of an input.
+const INPUT_MOST: usize = 60000;
 
-fn answers(rt: &impl Print, s: &[u8]) -> io::Result<()> {
-    let mut hand = answer::empty_hand();
-    let mut at = 0;
-    while at < s.len() {
-        let n = form::size(&s[at..]);
-        if n == 0 {
-            return Ok(());
-        }
-        let done = answer::answer(hand, &s[at..]);
-        let line = done.line;
-        print(rt, line)?;
-        hand = done.hand;
-        at += n;
+fn answers(rt: &impl Print, input: &[u8]) -> io::Result<()> {
+    let mut hand = None;
+    let mut rest = input;
+    while let Some(n) = operations::size(rest) {
+        let Answered { line, hand: next } = answer::answer(hand, rest);
+        lines::print(rt, line)?;
+        hand = next;
+        rest = &rest[n..];
     }
     Ok(())
 }
@@ -35,7 +28,7 @@ fn answers(rt: &impl Print, s: &[u8]) -> io::Result<()> {
 fn main(rt: HostRuntime) -> io::Result<()> {
     let mut input = Vec::new(rt.alloc());
     rt.reader().take(65536).read_to_end(&mut input)?;
-    if (input.len() <= 60000) && form::whole(&input) {
+    if input.len() <= INPUT_MOST && operations::whole(&input) {
         return answers(&rt, &input);
     }
     println!(rt; "I")

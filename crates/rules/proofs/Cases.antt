@@ -1,4 +1,5 @@
 -- Document 01's whole case, damaged copies of it, and a source that ends before a second size word: what the rules say, by computation.
+use Rattle.std.specs.Prelude.{Ok, None}
 use Prim.Native.Nat.{ℕ}
 use mathlib.Core.List.{List, [], ◌∷◌, ◌++◌}
 use mathlib.Core.Path.{◌≡◌, refl}
@@ -9,8 +10,7 @@ use Rattle.streaming.specs.declared.FlatHeader.{FlatHeader}
 use Rattle.streaming.specs.declared.Part.{Part}
 use Rattle.streaming.specs.declared.Part.TheVariants.{HeaderVars, Classes}
 use Rattle.streaming.specs.declared.Fault.TheVariants as fault
-use Rattle.streaming.specs.declared.Asked.{Asked}
-use Rattle.streaming.specs.declared.Asked.TheVariants as asked
+use Rattle.streaming.specs.Answers.{Asked}
 use Rattle.account.specs.Account.{Account, records_in, ending_of, bytes_taken, payload_taken, demand, broken}
 use Rattle.rules.specs.Source.{Of}
 use Rattle.rules.specs.Section.{start_sentinel, end_sentinel, section_record}
@@ -99,7 +99,7 @@ with_chunk bytes = front ++ first_object ++ bytes ++ last_chunk
 pub record WholeCase : Type 0 where
   pub is_whole : Of whole_header whole
   pub whole_case_lem : outcome_of (rules whole_header whole)
-      ≡ record { records = S HeaderVars 70 0 ∷ S Classes 108 0 ∷ O 5 146 3 0 ∷ []; ending = asked.Nothing; bytes = 97; payload_bytes = 3 }
+      ≡ record { records = S HeaderVars 70 0 ∷ S Classes 108 0 ∷ O 5 146 3 0 ∷ []; ending = Ok None; bytes = 97; payload_bytes = 3 }
 
 -- each byte that is changed brings its fault, and what was committed before it stands
 pub record Damaged : Type 0 where

@@ -1,4 +1,5 @@
 -- What document 01 says is easy to get wrong, and more of that kind, each as a case that the rules get right. By computation.
+use Rattle.std.specs.Prelude.{Ok, None}
 use Prim.Native.Nat.{ℕ}
 use mathlib.Core.List.{List, [], ◌∷◌, ◌++◌}
 use mathlib.Core.Path.{◌≡◌, refl}
@@ -6,7 +7,6 @@ use lib.ListN.{replicate}
 use Rattle.streaming.specs.declared.FlatHeader.{FlatHeader}
 use Rattle.streaming.specs.declared.Part.TheVariants.{HeaderVars, Classes}
 use Rattle.streaming.specs.declared.Fault.TheVariants as fault
-use Rattle.streaming.specs.declared.Asked.TheVariants as asked
 use Rattle.account.specs.Account.{broken}
 use Rattle.rules.specs.Section.{start_sentinel, end_sentinel}
 use Rattle.rules.specs.Rules.{rules}
@@ -54,10 +54,10 @@ r2000_header b = record {
 pub record EasyToGetWrong : Type 0 where
   -- handle and location restart in the next chunk: the same entry leads to the same object
   pub restart : told (rules (map_header 18 171) (map_of (first_chunk ++ first_chunk ++ last_chunk)))
-      ≡ record { records = sections_and (O 5 146 3 0 ∷ O 5 146 3 0 ∷ []); ending = asked.Nothing }
+      ≡ record { records = sections_and (O 5 146 3 0 ∷ O 5 146 3 0 ∷ []); ending = Ok None }
   -- deltas of zero are allowed: a handle comes twice
   pub twice : told (rules (map_header 13 166) (map_of ((0x00 ∷ 0x07 ∷ 0x05 ∷ 0x92 ∷ 0x01 ∷ 0x00 ∷ 0x00 ∷ 0x03 ∷ 0x71 ∷ []) ++ last_chunk)))
-      ≡ record { records = sections_and (O 5 146 3 0 ∷ O 5 146 3 0 ∷ []); ending = asked.Nothing }
+      ≡ record { records = sections_and (O 5 146 3 0 ∷ O 5 146 3 0 ∷ []); ending = Ok None }
   -- the map's end alone does not end the walk: 10 at the chunk that is missing
   pub no_last_chunk : told (rules (map_header 7 160) (map_of first_chunk))
       ≡ record { records = sections_and (O 5 146 3 0 ∷ []); ending = broken (fault.MapChunk 160) }
@@ -66,13 +66,13 @@ pub record EasyToGetWrong : Type 0 where
       ≡ record { records = sections_and []; ending = broken (fault.MapChunk 153) }
   -- an object may lie inside the header variables
   pub inside_vars : told (rules in_vars_header in_vars)
-      ≡ record { records = S HeaderVars 70 7 ∷ S Classes 115 0 ∷ O 5 90 3 0 ∷ []; ending = asked.Nothing }
+      ≡ record { records = S HeaderVars 70 7 ∷ S Classes 115 0 ∷ O 5 90 3 0 ∷ []; ending = Ok None }
   -- two words for a small size are allowed
-  pub two_words_lem : told (rules two_words_header two_words) ≡ record { records = sections_and (O 5 146 3 0 ∷ []); ending = asked.Nothing }
+  pub two_words_lem : told (rules two_words_header two_words) ≡ record { records = sections_and (O 5 146 3 0 ∷ []); ending = Ok None }
   -- nine bytes make a delta, a tenth is refused
   pub nine_bytes_lem : told (rules (map_header 19 172)
       (map_of ((0x00 ∷ 0x0D ∷ 0x85 ∷ 0x80 ∷ 0x80 ∷ 0x80 ∷ 0x80 ∷ 0x80 ∷ 0x80 ∷ 0x80 ∷ 0x00 ∷ 0x92 ∷ 0x01 ∷ 0xE4 ∷ 0x21 ∷ []) ++ last_chunk)))
-      ≡ record { records = sections_and (O 5 146 3 0 ∷ []); ending = asked.Nothing }
+      ≡ record { records = sections_and (O 5 146 3 0 ∷ []); ending = Ok None }
   pub tenth_byte : told (rules (map_header 20 173)
       (map_of ((0x00 ∷ 0x0E ∷ 0x80 ∷ 0x80 ∷ 0x80 ∷ 0x80 ∷ 0x80 ∷ 0x80 ∷ 0x80 ∷ 0x80 ∷ 0x80 ∷ 0x00 ∷ 0x00 ∷ 0x00 ∷ 0x6A ∷ 0xA4 ∷ []) ++ last_chunk)))
       ≡ record { records = sections_and []; ending = broken (fault.MapEntry 164) }
@@ -80,7 +80,7 @@ pub record EasyToGetWrong : Type 0 where
   pub size_three : told (rules (map_header 9 162) (map_of ((0x00 ∷ 0x03 ∷ 0x05 ∷ 0x0F ∷ 0xC1 ∷ []) ++ last_chunk)))
       ≡ record { records = sections_and []; ending = broken (fault.MapEntry 155) }
   -- the magic AC1015 and no other means R2000
-  pub ac1015 : told (rules (r2000_header 0x35) r2000) ≡ record { records = sections_and (O 47 146 8 19 ∷ []); ending = asked.Nothing }
+  pub ac1015 : told (rules (r2000_header 0x35) r2000) ≡ record { records = sections_and (O 47 146 8 19 ∷ []); ending = Ok None }
   pub ac1014 : told (rules (r2000_header 0x34) r2000) ≡ record { records = sections_and []; ending = broken (fault.ObjectHandle 47 0) }
 
 pub easy_to_get_wrong : EasyToGetWrong

@@ -1,4 +1,5 @@
 -- What the rules and the plain list say of a header and a source, in numbers: for checks of the definitions against the Rust's answers.
+use Rattle.std.specs.Prelude.{Ok, Err, Some, None}
 use Prim.Native.Nat.{ℕ}
 use mathlib.Core.List.{List, [], ◌∷◌, map}
 use mathlib.Core.Option.{Option, none, some}
@@ -6,8 +7,7 @@ use Rattle.streaming.specs.Numbers.{part_number, number_of, fields_of}
 use Rattle.streaming.specs.Record.{Record, section, object}
 use Rattle.streaming.specs.declared.FlatHeader.{FlatHeader}
 use Rattle.streaming.specs.declared.StreamError.{StreamError}
-use Rattle.streaming.specs.declared.Asked.{Asked}
-use Rattle.streaming.specs.declared.Asked.TheVariants as asked
+use Rattle.streaming.specs.Answers.{Asked}
 use Rattle.account.specs.Account.{records_in, ending_of, bytes_taken, payload_taken}
 use Rattle.rules.specs.Header.{start_refusal}
 use Rattle.rules.specs.Rules.{rules}
@@ -20,9 +20,9 @@ line_of (section r) = 0 ∷ part_number r.part ∷ r.data_offset ∷ r.size ∷ 
 line_of (object r) = 1 ∷ r.handle ∷ r.offset ∷ r.size ∷ r.type_code ∷ []
 
 abbrev pub end_of : Asked → List ℕ
-end_of asked.Nothing = 0 ∷ []
-end_of (asked.Demand r) = 6 ∷ r.offset ∷ r.len ∷ []
-end_of (asked.Refused e) = number_of e ∷ fields_of e
+end_of (Ok None) = 0 ∷ []
+end_of (Ok (Some r)) = 6 ∷ r.offset ∷ r.len ∷ []
+end_of (Err e) = number_of e ∷ fields_of e
 
 -- records, ending, bytes and payload by the account; records and ending by the plain list
 pub record Fact : Type 0 where

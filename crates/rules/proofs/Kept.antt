@@ -1,4 +1,5 @@
 -- One induction over the rules: what each demand and each turn keeps, their account has.
+use Rattle.std.specs.Prelude.{Ok, None}
 use Prim.Native.Nat.{ℕ, zero, suc, ◌+◌, ◌-◌}
 use mathlib.Core.List.{List, [], ◌∷◌}
 use mathlib.Core.Option.{Option, none, some}
@@ -13,8 +14,6 @@ use Rattle.streaming.specs.declared.ObjectRecord.{ObjectRecord}
 use Rattle.streaming.specs.declared.FlatHeader.{FlatHeader}
 use Rattle.streaming.specs.declared.Step.TheVariants as step
 use Rattle.streaming.specs.declared.Fault.{Fault}
-use Rattle.streaming.specs.declared.Asked.TheVariants as asked
-use Rattle.streaming.specs.declared.Answer.TheVariants as answer
 use Rattle.streaming.proofs.Choose.{in_both}
 use Rattle.account.specs.Statement.{part}
 use Rattle.account.specs.Account.{Account, over, framing, payload, finished, broken}
@@ -38,11 +37,11 @@ pub record Kept (src : List ℕ) (P : (taken : ℕ) → Account → Type 0) (Q :
   -- ends
   pub stopped : (taken : ℕ) (f : Fault) → P taken (over (broken f))
   pub failing : (at taken : ℕ) (f : Fault) → Q at taken (bad f)
-  pub finishing : (at : ℕ) → Q at 0 (go finished (over asked.Nothing))
+  pub finishing : (at : ℕ) → Q at 0 (go finished (over (Ok None)))
   -- turns that go on: a commit stands at its record's last byte, and all of the record's data was taken
   pub going : (at taken : ℕ) (a : Account) → P taken a → Q at taken (go framing a)
-  pub sections : (r : SectionRecord) (at : ℕ) (a : Account) → at ≡ last_byte_of src (section r) → P 0 a → Q at r.size (go (answer.Step (step.Section r)) a)
-  pub objects : (r : ObjectRecord) (at : ℕ) (a : Account) → at ≡ last_byte_of src (object r) → P 0 a → Q at r.size (go (answer.Step (step.Object r)) a)
+  pub sections : (r : SectionRecord) (at : ℕ) (a : Account) → at ≡ last_byte_of src (section r) → P 0 a → Q at r.size (go (Ok (step.Section r)) a)
+  pub objects : (r : ObjectRecord) (at : ℕ) (a : Account) → at ≡ last_byte_of src (object r) → P 0 a → Q at r.size (go (Ok (step.Object r)) a)
   -- demands
   pub spans : (at n end taken : ℕ) (t : Turn) → at + n ≡ end → Q end taken t → P taken (span src at (suc n) framing t)
   pub passes : (at n taken : ℕ) (a : Account) → P taken a → P taken (passing src at n framing a)
@@ -54,7 +53,7 @@ module _ (src : List ℕ) (P : (taken : ℕ) → Account → Type 0) (Q : (at ta
   -- ---- a section
 
   module _ (p : Part) (is : IsSection p) (start total : ℕ) (next : Account) (c : P 0 next) where
-    section_turn : (size : ℕ) → Q (start + 37 + size) size (go (answer.Step (step.Section (section_record p start size))) next)
+    section_turn : (size : ℕ) → Q (start + 37 + size) size (go (Ok (step.Section (section_record p start size))) next)
     unfolding last_byte_of section_record
     section_turn size = kept.sections (section_record p start size) (start + 37 + size) next (omega arith) c
 

@@ -1,4 +1,5 @@
 -- In every account of the rules each commit stands at the last byte of its own record's unit.
+use Rattle.std.specs.Prelude.{Ok, Err}
 use Prim.Native.Nat.{ℕ, zero, suc, ◌+◌}
 use mathlib.Core.List.{List, [], ◌∷◌}
 use mathlib.Core.Path.{◌≡◌, refl}
@@ -9,8 +10,7 @@ use Rattle.streaming.specs.Record.{committed_in}
 use Rattle.streaming.specs.declared.FlatHeader.{FlatHeader}
 use Rattle.streaming.specs.declared.Step.TheVariants as step
 use Rattle.streaming.specs.declared.Fault.{Fault}
-use Rattle.streaming.specs.declared.Answer.{Answer}
-use Rattle.streaming.specs.declared.Answer.TheVariants as answer
+use Rattle.streaming.specs.Answers.{Answer}
 use Rattle.streaming.proofs.Choose.{in_both}
 use Rattle.account.specs.Account.{Account, framing, payload}
 use Rattle.account.specs.Asking.{Turn, go, ask_byte, span, passing, one_by_one, spell}
@@ -26,12 +26,12 @@ module _ (src : List ℕ) where
     behind : CommitsLast src t.rest
 
   quiet_placed : (at left : ℕ) (s : Answer) → Quiet s → Placed src at left (committed_in s)
-  quiet_placed at left (answer.Step step.Framing) q = tt
-  quiet_placed at left (answer.Step (step.Payload part)) q = tt
-  quiet_placed at left (answer.Step (step.Section r)) q = absurd q
-  quiet_placed at left (answer.Step (step.Object r)) q = absurd q
-  quiet_placed at left (answer.Step step.Finished) q = absurd q
-  quiet_placed at left (answer.Refused e) q = absurd q
+  quiet_placed at left (Ok step.Framing) q = tt
+  quiet_placed at left (Ok (step.Payload part)) q = tt
+  quiet_placed at left (Ok (step.Section r)) q = absurd q
+  quiet_placed at left (Ok (step.Object r)) q = absurd q
+  quiet_placed at left (Ok step.Finished) q = absurd q
+  quiet_placed at left (Err e) q = absurd q
 
   quiet_turned : (at : ℕ) (s : Answer) (a : Account) → Quiet s → CommitsLast src a → Turned at (go s a)
   quiet_turned at s a q c = record { placed = quiet_placed at 1 s q; behind = c }

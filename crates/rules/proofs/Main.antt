@@ -1,4 +1,5 @@
 -- The file to open first: what is proved of the rules, each statement in full, and where its proof stands.
+use Rattle.std.specs.Prelude.{Ok, None}
 use Prim.Native.Nat.{ℕ, ◌+◌, ◌*◌, ◌/◌, ◌≤◌}
 use mathlib.Core.Bool.{Bool}
 use mathlib.Core.List.{List}
@@ -6,7 +7,6 @@ use mathlib.Core.Path.{◌≡◌}
 use lib.ListN.{length, take}
 use Rattle.streaming.specs.Record.{objects_in}
 use Rattle.streaming.specs.declared.FlatHeader.{FlatHeader}
-use Rattle.streaming.specs.declared.Asked.TheVariants as asked
 use Rattle.account.specs.Account.{demand, records_within, bytes_at_most, payload_taken}
 use Rattle.account.specs.Tidy.{Tidy}
 use Rattle.rules.specs.Header.{locator_of, map_start, map_size}
@@ -68,7 +68,7 @@ pub payload_so_far : (h : FlatHeader) (src : List ℕ) (n : ℕ)
 payload_so_far = Payload.payload_so_far
 
 -- A finished walk has nothing in hand: its payload is the sizes of its records.
-pub payload_in_all : (h : FlatHeader) (src : List ℕ) → ending h src ≡ asked.Nothing → payload_taken (rules h src) ≡ sizes_of (records h src)
+pub payload_in_all : (h : FlatHeader) (src : List ℕ) → ending h src ≡ Ok None → payload_taken (rules h src) ≡ sizes_of (records h src)
 payload_in_all = Payload.payload_in_all
 
 -- ---- numbers in the definitions that decide nothing

@@ -1,4 +1,5 @@
 -- The payload of a walk is the sizes of what it commits, and what was taken of the unit in hand.
+use Rattle.std.specs.Prelude.{Ok, None}
 use Prim.Native.Nat.{ℕ, zero, suc, ◌+◌}
 use mathlib.Core.List.{List, [], ◌∷◌, ◌++◌}
 use mathlib.Core.Path.{◌≡◌, refl}
@@ -10,9 +11,7 @@ use Rattle.streaming.specs.Record.{Record, committed_in}
 use Rattle.streaming.specs.declared.Part.{Part}
 use Rattle.streaming.specs.declared.FlatHeader.{FlatHeader}
 use Rattle.streaming.specs.declared.Fault.{Fault}
-use Rattle.streaming.specs.declared.Asked.{Asked}
-use Rattle.streaming.specs.declared.Asked.TheVariants as asked
-use Rattle.streaming.specs.declared.Answer.{Answer}
+use Rattle.streaming.specs.Answers.{Asked, Answer}
 use Rattle.streaming.proofs.Choose.{in_both}
 use Rattle.account.specs.Account.{Account, ask, over, demand, framing, payload, faulted, broken, records_in, records_within, ending_of, payload_byte, payload_taken}
 use Rattle.account.specs.Asking.{Turn, ask_byte, span, passing, one_by_one, spell}
@@ -28,7 +27,7 @@ Due (r ∷ s ∷ rs) taken = ⊥
 
 -- An account that begins with so much payload in hand. Where the walk is finished nothing is.
 data Pays : (taken : ℕ) → Account → Type 0 where
-  ends : {taken : ℕ} {q : Asked} → (q ≡ asked.Nothing → taken ≡ 0) → Pays taken (over q)
+  ends : {taken : ℕ} {q : Asked} → (q ≡ Ok None → taken ≡ 0) → Pays taken (over q)
   each : {taken at left : ℕ} {says : Answer} {rest : Account} → Due (committed_in says) (taken + payload_byte says)
       → Pays (kept_behind (committed_in says) (taken + payload_byte says)) rest → Pays taken (ask at left says rest)
 
@@ -39,13 +38,13 @@ record Settles (taken : ℕ) (t : Turn) : Type 0 where
 pays_broken : (taken : ℕ) (f : Fault) → Pays taken (over (broken f))
 pays_broken taken f = ends (never (broken f) refl)
   where
-    never : (q : Asked) → q ≡ broken f → q ≡ asked.Nothing → taken ≡ 0
+    never : (q : Asked) → q ≡ broken f → q ≡ Ok None → taken ≡ 0
     never q d e = let z : ◌≡◌ {A = ℕ} 0 1 = cc in absurd (omega arith)
 
 pays_demand : (taken at left : ℕ) → Pays taken (over (demand at left))
 pays_demand taken at left = ends (never (demand at left) refl)
   where
-    never : (q : Asked) → q ≡ demand at left → q ≡ asked.Nothing → taken ≡ 0
+    never : (q : Asked) → q ≡ demand at left → q ≡ Ok None → taken ≡ 0
     never q d e = let z : ◌≡◌ {A = ℕ} 0 1 = cc in absurd (omega arith)
 
 pays_bad : (taken at left : ℕ) (f : Fault) → Pays taken (ask at left (faulted f) (over (broken f)))
@@ -132,7 +131,7 @@ so_far taken (suc n) (ask at left says rest) (each d k) =
           (so_far hand n rest k),
     )
 
-in_all : (taken : ℕ) (a : Account) → Pays taken a → ending_of a ≡ asked.Nothing → taken + payload_taken a ≡ sizes_of (records_in a) + 0
+in_all : (taken : ℕ) (a : Account) → Pays taken a → ending_of a ≡ Ok None → taken + payload_taken a ≡ sizes_of (records_in a) + 0
 unfolding ending_of payload_taken records_in sizes_of
 in_all taken (over q) (ends f) e = omega (arith, f e)
 in_all taken (ask at left says rest) (each d k) e =
@@ -145,5 +144,5 @@ pub payload_so_far : (h : FlatHeader) (src : List ℕ) (n : ℕ)
 payload_so_far h src n = omega (arith, so_far 0 n (rules h src) (rules_pay h src))
 
 -- a finished walk has nothing in hand
-pub payload_in_all : (h : FlatHeader) (src : List ℕ) → ending h src ≡ asked.Nothing → payload_taken (rules h src) ≡ sizes_of (records h src)
+pub payload_in_all : (h : FlatHeader) (src : List ℕ) → ending h src ≡ Ok None → payload_taken (rules h src) ≡ sizes_of (records h src)
 payload_in_all h src e = omega (arith, in_all 0 (rules h src) (rules_pay h src) e)

@@ -1,4 +1,5 @@
 -- One induction over the plain list: what each of its steps keeps, it has.
+use Rattle.std.specs.Prelude.{Ok, None}
 use Prim.Native.Nat.{ℕ, zero, suc, ◌+◌, ◌-◌, ◌≤◌}
 use mathlib.Core.Bool.{Bool, true, false}
 use mathlib.Core.List.{List, [], ◌∷◌}
@@ -11,7 +12,6 @@ use Rattle.streaming.specs.declared.SectionRecord.{SectionRecord}
 use Rattle.streaming.specs.declared.ObjectRecord.{ObjectRecord}
 use Rattle.streaming.specs.declared.FlatHeader.{FlatHeader}
 use Rattle.streaming.specs.declared.Fault.{Fault}
-use Rattle.streaming.specs.declared.Asked.TheVariants as asked
 use Rattle.streaming.proofs.Choose.{in_both}
 use Rattle.account.specs.Account.{demand, broken}
 use Rattle.rules.specs.Header.{map_start, map_size, map_end}
@@ -26,7 +26,7 @@ use Rattle.rules.proofs.Map.{fits_low, fits_end, chunk-within}
 -- A property of listings that come of so many bytes of the map. An object comes of two of them at least.
 pub record PlainKept (h : FlatHeader) (src : List ℕ) (P : (room : ℕ) → Listing → Type 0) : Type 0 where
   pub stopped : (room : ℕ) (f : Fault) → P room (stop (broken f))
-  pub finishing : (room : ℕ) → P room (stop asked.Nothing)
+  pub finishing : (room : ℕ) → P room (stop (Ok None))
   pub stalled : (room location : ℕ) → may_start h location ≡ true → lacks_second_word h src location ≡ true
       → P room (stop (demand h.length (location + 4 - h.length)))
   pub sections : (room : ℕ) (r : SectionRecord) (l : Listing) → P room l → P room (first (section r) l)

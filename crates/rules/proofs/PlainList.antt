@@ -1,4 +1,5 @@
 -- The account and the plain list agree: the same records, in the same order, and the same ending.
+use Rattle.std.specs.Prelude.{Ok, None}
 use Prim.Native.Nat.{ℕ, zero, suc, ◌+◌, ◌-◌, ◌≤◌}
 use mathlib.Core.List.{List, [], ◌∷◌}
 use mathlib.Core.Path.{◌≡◌, refl, ap, ◌∙◌}
@@ -7,7 +8,6 @@ use lib.ListN.{length}
 use borrow.Author.Tests.{leb-true}
 use Rattle.streaming.specs.declared.Part.TheVariants.{HeaderVars, Classes}
 use Rattle.streaming.specs.declared.FlatHeader.{FlatHeader}
-use Rattle.streaming.specs.declared.Asked.TheVariants as asked
 use Rattle.account.specs.Account.{Account, framing}
 use Rattle.rules.specs.Header.{locator_of, map_start, map_size, map_end}
 use Rattle.rules.specs.Source.{Of}
@@ -43,7 +43,7 @@ module _ (h : FlatHeader) (src : List ℕ) (len : length src ≡ h.length) where
         → told_turn (chunk_turn h src chunk size next) ≡ checked_chunk_then h src chunk size (told next)
     unfolding chunk_turn checked_chunk_then
     chunk-told chunk size next k l =
-        choose_alike told_turn _ (λ e. turn_if _ _ _ λ f. told_over asked.Nothing) λ e.
+        choose_alike told_turn _ (λ e. turn_if _ _ _ λ f. told_over (Ok None)) λ e.
         let w = chunk-within src chunk size in
         entries_told (chunk_entries src chunk size) w.0 (chunk + 2) next w.2 (omega (arith, w.1))
 

@@ -1,4 +1,5 @@
 -- A walk stalls only at the source's end, for the second size word of an object.
+use Rattle.std.specs.Prelude.{Ok, None}
 use Prim.Native.Nat.{ℕ, ◌+◌, ◌-◌, ◌<◌}
 use mathlib.Core.Bool.{true, not}
 use mathlib.Core.List.{List}
@@ -7,7 +8,6 @@ use native.Mathlib.Omega.{arith}
 use borrow.Author.Tests.{ltb-true, not-true}
 use Rattle.streaming.specs.declared.FlatHeader.{FlatHeader}
 use Rattle.streaming.specs.declared.Fault.{Fault}
-use Rattle.streaming.specs.declared.Asked.TheVariants as asked
 use Rattle.streaming.proofs.Choose.{and_left, and_right}
 use Rattle.account.specs.Account.{demand, broken}
 use Rattle.account.proofs.Asking.{demand-same}
@@ -27,7 +27,7 @@ module _ (h : FlatHeader) (src : List ℕ) (of : Of h src) where
   no_fault : (f : Fault) (at left : ℕ) → broken f ≡ demand at left → Stall h src at left
   no_fault f at left e = let z : ◌≡◌ {A = ℕ} 0 1 = cc in absurd (omega arith)
 
-  no_end : (at left : ℕ) → asked.Nothing ≡ demand at left → Stall h src at left
+  no_end : (at left : ℕ) → Ok None ≡ demand at left → Stall h src at left
   no_end at left e = let z : ◌≡◌ {A = ℕ} 0 1 = cc in absurd (omega arith)
 
   lacking : (location : ℕ) → may_start h location ≡ true → lacks_second_word h src location ≡ true → (at left : ℕ)

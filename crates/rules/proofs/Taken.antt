@@ -4,8 +4,7 @@ use mathlib.Core.List.{List}
 use native.Mathlib.Omega.{arith}
 use lib.ListN.{length}
 use Rattle.streaming.specs.declared.Fault.{Fault}
-use Rattle.streaming.specs.declared.Asked.{Asked}
-use Rattle.streaming.specs.declared.Answer.{Answer}
+use Rattle.streaming.specs.Answers.{Asked, Answer}
 use Rattle.account.specs.Account.{Account, over, bytes_at_most}
 use Rattle.account.specs.Asking.{Turn, go, bad, span, one_by_one, spell}
 use Rattle.account.specs.Tidy.{Quiet}

@@ -1,4 +1,5 @@
 -- A demand that the source has bytes for tells what its turn does.
+use Rattle.std.specs.Prelude.{Ok, Err}
 use Prim.Native.Nat.{ℕ, zero, suc, ◌+◌, ◌≤◌, ◌<◌}
 use mathlib.Core.Bool.{Bool, true, false, ◌&&◌}
 use mathlib.Core.List.{List, [], ◌∷◌, ◌++◌}
@@ -12,9 +13,7 @@ use Rattle.streaming.specs.Choose.{when◌then◌else◌}
 use Rattle.streaming.specs.Record.{committed_in}
 use Rattle.streaming.specs.declared.Step.TheVariants as step
 use Rattle.streaming.specs.declared.Fault.{Fault}
-use Rattle.streaming.specs.declared.Asked.{Asked}
-use Rattle.streaming.specs.declared.Answer.{Answer}
-use Rattle.streaming.specs.declared.Answer.TheVariants as answer
+use Rattle.streaming.specs.Answers.{Asked, Answer}
 use Rattle.account.specs.Statement.{part}
 use Rattle.account.specs.Account.{Account, ask, over, records_in, ending_of, framing, faulted, broken}
 use Rattle.account.specs.Asking.{Turn, go, bad, span, passing, one_by_one, spell}
@@ -27,12 +26,12 @@ told_turn t = record { records = committed_in t.says ++ records_in t.rest; endin
 
 -- what is quiet commits nothing
 quiet : (s : Answer) → Quiet s → (a : Account) → told_turn (go s a) ≡ told a
-quiet (answer.Step step.Framing) q a = refl
-quiet (answer.Step (step.Payload part)) q a = refl
-quiet (answer.Step (step.Section r)) q a = absurd q
-quiet (answer.Step (step.Object r)) q a = absurd q
-quiet (answer.Step step.Finished) q a = absurd q
-quiet (answer.Refused e) q a = absurd q
+quiet (Ok step.Framing) q a = refl
+quiet (Ok (step.Payload part)) q a = refl
+quiet (Ok (step.Section r)) q a = absurd q
+quiet (Ok (step.Object r)) q a = absurd q
+quiet (Ok step.Finished) q a = absurd q
+quiet (Err e) q a = absurd q
 
 pub told-bad : (f : Fault) → told_turn (bad f) ≡ stop (broken f)
 unfolding records_in ending_of

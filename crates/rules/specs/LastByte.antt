@@ -1,8 +1,7 @@
 -- Where a commit has to stand: at the last byte of its own record's unit, which is the last byte of its demand.
 use Rattle.std.specs.Prelude.{ℕ, ◌+◌, List, [], ◌∷◌, ◌≡◌}
 use Rattle.streaming.specs.Record.{Record, section, object, committed_in}
-use Rattle.streaming.specs.declared.Asked.{Asked}
-use Rattle.streaming.specs.declared.Answer.{Answer}
+use Rattle.streaming.specs.Answers.{Asked, Answer}
 use Rattle.account.specs.Account.{Account, ask, over}
 use Rattle.rules.specs.Object.{Size, sized, unending, size_at}
 

@@ -1,9 +1,8 @@
 -- The object map (§23.1): chunks of a size, entries and a checksum. Sizes and checksums are big-endian, and a size counts itself.
-use Rattle.std.specs.Prelude.{ℕ, zero, suc, ◌+◌, ◌-◌, Bool, ◌&&◌, List, [], ◌∷◌, leb, eqb}
+use Rattle.std.specs.Prelude.{ℕ, zero, suc, ◌+◌, ◌-◌, Bool, ◌&&◌, List, [], ◌∷◌, leb, eqb, Ok, None}
 use Rattle.streaming.specs.Choose.{when◌then◌else◌}
 use Rattle.streaming.specs.declared.FlatHeader.{FlatHeader}
 use Rattle.streaming.specs.declared.Fault.TheVariants as fault
-use Rattle.streaming.specs.declared.Asked.TheVariants as asked
 use Rattle.account.specs.Statement.{part}
 use Rattle.account.specs.Account.{Account, over, framing, finished, broken}
 use Rattle.account.specs.Asking.{Turn, go, bad, span, passing, one_by_one}
@@ -45,7 +44,7 @@ module _ (h : FlatHeader) (src : List ℕ) where
   -- size 2 ends the walk, and has to end the map
   unfoldable pub chunk_turn : (chunk size : ℕ) → Account → Turn
   chunk_turn chunk size next =
-      when eqb size 2 then (when eqb (chunk + 4) (map_end h) then go finished (over asked.Nothing) else bad (fault.MapChunk chunk))
+      when eqb size 2 then (when eqb (chunk + 4) (map_end h) then go finished (over (Ok None)) else bad (fault.MapChunk chunk))
       else go framing (ask_entries (chunk_entries src chunk size) (chunk + 2) next)
 
   unfoldable pub chunk_crc_turn : (chunk size computed stored : ℕ) → Account → Turn

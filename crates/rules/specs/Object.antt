@@ -1,12 +1,11 @@
 -- An object (§20.1): its size in one or two words, its data, and a checksum of 2 bytes. Numbers are little-endian.
-use Rattle.std.specs.Prelude.{ℕ, ◌+◌, ◌*◌, ◌%◌, Bool, ◌&&◌, not, List, take, drop, ltb, leb, eqb}
+use Rattle.std.specs.Prelude.{ℕ, ◌+◌, ◌*◌, ◌%◌, Bool, ◌&&◌, not, List, take, drop, ltb, leb, eqb, Ok}
 use Rattle.std.proofs.Math.Option.{Option, none, some}
 use Rattle.streaming.specs.Choose.{when◌then◌else◌}
 use Rattle.streaming.specs.declared.Part.TheVariants.{Object}
 use Rattle.streaming.specs.declared.FlatHeader.{FlatHeader}
 use Rattle.streaming.specs.declared.ObjectRecord.{ObjectRecord}
 use Rattle.streaming.specs.declared.Step.TheVariants as step
-use Rattle.streaming.specs.declared.Answer.TheVariants as answer
 use Rattle.streaming.specs.declared.Fault.{Fault}
 use Rattle.streaming.specs.declared.Fault.TheVariants as fault
 use Rattle.account.specs.Statement.{part}
@@ -91,7 +90,7 @@ verdict h src handle location field_bytes size =
 
 -- the last byte commits
 unfoldable pub verdict_turn : (next : Account) → Verdict → Turn
-verdict_turn next (holds r) = go (answer.Step (step.Object r)) next
+verdict_turn next (holds r) = go (Ok (step.Object r)) next
 verdict_turn next (fails f) = bad f
 
 module _ (h : FlatHeader) (src : List ℕ) (handle location : ℕ) (next : Account) where

@@ -1,6 +1,6 @@
 -- The records and the ending of a drawing as a plain list, with nothing asked for: both sections; then for each chunk of the map, for each of its
 -- entries, the object. The map's order decides.
-use Rattle.std.specs.Prelude.{ℕ, zero, suc, ◌+◌, ◌-◌, Bool, true, false, ◌&&◌, not, List, [], ◌∷◌, ltb, leb, eqb}
+use Rattle.std.specs.Prelude.{ℕ, zero, suc, ◌+◌, ◌-◌, Bool, true, false, ◌&&◌, not, List, [], ◌∷◌, ltb, leb, eqb, Ok, None}
 use Rattle.streaming.specs.Choose.{when◌then◌else◌}
 use Rattle.streaming.specs.Numbers.{part_number}
 use Rattle.streaming.specs.Record.{Record, section, object}
@@ -9,8 +9,7 @@ use Rattle.streaming.specs.declared.Part.TheVariants.{HeaderVars, Classes}
 use Rattle.streaming.specs.declared.FlatHeader.{FlatHeader}
 use Rattle.streaming.specs.declared.Fault.{Fault}
 use Rattle.streaming.specs.declared.Fault.TheVariants as fault
-use Rattle.streaming.specs.declared.Asked.{Asked}
-use Rattle.streaming.specs.declared.Asked.TheVariants as asked
+use Rattle.streaming.specs.Answers.{Asked}
 use Rattle.account.specs.Statement.{part}
 use Rattle.account.specs.Account.{Account, records_in, ending_of, demand, broken}
 use Rattle.octets.specs.Octets.{same}
@@ -84,7 +83,7 @@ module _ (h : FlatHeader) (src : List ℕ) where
   -- a chunk with no entries is the last
   unfoldable pub checked_chunk_then : (chunk size : ℕ) → Listing → Listing
   checked_chunk_then chunk size rest =
-      when eqb size 2 then require (eqb (chunk + 4) (map_end h)) (fault.MapChunk chunk) (stop asked.Nothing)
+      when eqb size 2 then require (eqb (chunk + 4) (map_end h)) (fault.MapChunk chunk) (stop (Ok None))
       else entries_then (chunk_entries src chunk size) (chunk + 2) rest
 
   -- a chunk of the map (§23.1)

@@ -5,7 +5,7 @@ use Rattle.streaming.specs.Numbers.{part_number}
 use Rattle.streaming.specs.declared.Part.{Part}
 use Rattle.streaming.specs.declared.Part.TheVariants.{HeaderVars, Classes}
 use Rattle.streaming.specs.declared.FlatHeader.{FlatHeader}
-use Rattle.streaming.specs.declared.Asked.{Asked}
+use Rattle.streaming.specs.Answers.{Asked}
 use Rattle.account.specs.Account.{Account, records_in, ending_of}
 use Rattle.rules.specs.Header.{locator_of, map_start, map_size}
 use Rattle.rules.specs.Section.{ask_section}

@@ -1,12 +1,11 @@
 -- A section: the header variables (§9) or the classes (§10.1). A start sentinel of 16 bytes, a size of 4, data, a checksum of 2 and an end
 -- sentinel of 16. Numbers are little-endian, and each of the five fields is one demand.
-use Rattle.std.specs.Prelude.{ℕ, ◌+◌, List, [], ◌∷◌, get_or, leb, eqb}
+use Rattle.std.specs.Prelude.{ℕ, ◌+◌, List, [], ◌∷◌, get_or, leb, eqb, Ok}
 use Rattle.streaming.specs.Choose.{when◌then◌else◌}
 use Rattle.streaming.specs.Numbers.{part_number}
 use Rattle.streaming.specs.declared.Part.{Part}
 use Rattle.streaming.specs.declared.SectionRecord.{SectionRecord}
 use Rattle.streaming.specs.declared.Step.TheVariants as step
-use Rattle.streaming.specs.declared.Answer.TheVariants as answer
 use Rattle.streaming.specs.declared.Fault.TheVariants as fault
 use Rattle.account.specs.Statement.{part}
 use Rattle.account.specs.Account.{Account, over, framing, payload, broken}
@@ -55,7 +54,7 @@ module _ (src : List ℕ) (p : Part) (start : ℕ) (next : Account) where
   -- the last byte commits
   unfoldable pub ask_section_end : (size : ℕ) → Account
   ask_section_end size =
-      spell src (start + 22 + size) (end_sentinel p) (fault.SectionSentinel (part_number p)) (go (answer.Step (step.Section (section_record p start size))) next)
+      spell src (start + 22 + size) (end_sentinel p) (fault.SectionSentinel (part_number p)) (go (Ok (step.Section (section_record p start size))) next)
 
   unfoldable pub section_crc_turn : (size computed stored : ℕ) → Turn
   section_crc_turn size computed stored =

@@ -1,5 +1,5 @@
 -- Stages Vars and Classes: what is asked for in a section, and what a piece of it does.
-use Rattle.std.specs.Prelude.{ℕ, ◌+◌, ◌-◌, List, length, take, ltb, leb, eqb}
+use Rattle.std.specs.Prelude.{ℕ, ◌+◌, ◌-◌, List, [], length, get_or, take, ltb, leb, eqb}
 use Rattle.std.proofs.lemmas.List.Edits.{sets}
 use Rattle.crc.specs.Crc.{crc_of}
 use Rattle.octets.specs.Octets.{little_endian, same}
@@ -19,8 +19,10 @@ use Rattle.streaming.specs.declared.Fed.{Fed}
 use Rattle.account.specs.Statement.{part}
 use Rattle.rules.specs.Bytes.{seed}
 use Rattle.rules.specs.Header.{locator_of, map_start}
-use Rattle.rules.specs.Section.{frame, start_sentinel, end_sentinel, section_record}
+use Rattle.rules.specs.Section.{sentinels, frame, start_sentinel, end_sentinel, section_record}
 use Rattle.chunk.specs.Chunk.{enter_chunk}
+use Rattle.section.specs.declared.sentinels.Side.{Side}
+use Rattle.section.specs.declared.sentinels.Side.TheVariants.{Start, End}
 
 -- ---- the section in hand
 
@@ -35,6 +37,16 @@ part_of stage.Done = Classes
 
 abbrev pub section_of : FlatWalker → Locator
 section_of s = locator_of s.header (part_number (part_of s.stage))
+
+-- ---- its sentinels
+
+abbrev pub side_number : Side → ℕ
+side_number Start = 0
+side_number End = 1
+
+-- by the number of the part
+abbrev pub sentinel_at : (part : ℕ) → Side → List ℕ
+sentinel_at part side = get_or (get_or sentinels part []) (side_number side) []
 
 -- ---- entering one, and what follows it
 

@@ -12,11 +12,7 @@ pub fn part_of(g: Stage) -> Part
 {
     match g {
         Stage::Vars => Part::HeaderVars,
-        Stage::Classes => Part::Classes,
-        Stage::Chunk => Part::Classes,
-        Stage::Entry => Part::Classes,
-        Stage::Object => Part::Classes,
-        Stage::Done => Part::Classes,
+        Stage::Classes | Stage::Chunk | Stage::Entry | Stage::Object | Stage::Done => Part::Classes,
     }
 }
 
@@ -24,14 +20,7 @@ pub fn part_of(g: Stage) -> Part
 pub fn part_number(g: Stage) -> u8
     ensures { (result ≡ part_number (part_of g)) × (result < 2) }
 {
-    match g {
-        Stage::Vars => 0,
-        Stage::Classes => 1,
-        Stage::Chunk => 1,
-        Stage::Entry => 1,
-        Stage::Object => 1,
-        Stage::Done => 1,
-    }
+    u8::from(part_of(g))
 }
 
 // The locator of the section in hand.

@@ -8,10 +8,7 @@ ghost use Rattle.section.specs.Fit.{section_done, fit_section, FitSection};
 use chunk::{no_entry, no_object};
 use hand::{part_number, section};
 use header::locator;
-use pieces::{
-    feed_section_crc, feed_section_data, feed_section_end, feed_section_size, feed_section_start,
-};
-use streaming::{Fault, Fed, FlatWalker, Request, Stage, failing, in_unit};
+use streaming::{Fault, Fed, FlatWalker, Request, Stage, Unit, failing, in_unit};
 
 mod hand;
 mod pieces;
@@ -20,9 +17,6 @@ mod settle;
 
 // The sentinels, the size and the checksum.
 const FRAME: u64 = 38;
-
-// Every checksum of a drawing starts from this seed.
-const SEED: u16 = 0xC0C1;
 
 // Where the demand ends: the sentinel, the size, the data, the checksum, the sentinel.
 fn section_end(done: u32, size: u32) -> u64
@@ -45,20 +39,6 @@ fn section_end(done: u32, size: u32) -> u64
     FRAME + n
 }
 
-// What is asked for in a section.
-pub fn request_section(s: FlatWalker) -> Request
-    requires { FitSection s }
-    ensures { result ≡ request_section s }
-{
-    let l = section(s);
-    let d = s.done as u64;
-    let end = section_end(s.done, s.size);
-    Request {
-        offset: l.offset as u64 + d,
-        len: end - d,
-    }
-}
-
 // A section that can't hold its frame is a fault, which is told by the next call.
 pub fn enter_section(s: FlatWalker, g: Stage) -> FlatWalker
     ensures { result ≡ enter_section s g }
@@ -71,29 +51,6 @@ pub fn enter_section(s: FlatWalker, g: Stage) -> FlatWalker
         return t;
     }
     failing(t, Fault::SectionSize(number))
-}
-
-// A piece of the field that is asked for.
-pub fn feed_section(s: FlatWalker, piece: &[u8]) -> Fed
-    requires fit_section { FitSection s }
-    requires piece_len_bound { length piece.now ≤ (request_section s).len }
-    ensures { result ≡ feed_section s piece.now }
-{
-    let d = s.done as u64;
-    let n = s.size as u64;
-    if d < 16 {
-        return feed_section_start(s, piece);
-    }
-    if d < 20 {
-        return feed_section_size(s, piece);
-    }
-    if d < 20 + n {
-        return feed_section_data(s, piece);
-    }
-    if d < 22 + n {
-        return feed_section_crc(s, piece);
-    }
-    feed_section_end(s, piece)
 }
 
 // How far the section is: its size, once it is known, is the locator's.
@@ -115,4 +72,62 @@ pub fn fit_section(s: FlatWalker) -> bool
     let fresh = no_object(s) & (no_entry(m) & (m.chunk == 0));
     let done = section_done(l.size, s.done, s.size);
     fresh & ((FRAME <= l.size as u64) & (s.done < l.size)) & done
+}
+
+// A walk in a section.
+#[derive(Clone, Copy)]
+pub struct Section {
+    walker: FlatWalker,
+    ghost fit: { FitSection walker },
+}
+
+impl Unit for Section {
+    ghost is_fit = { fit_section };
+
+    ghost request_of = { request_section };
+
+    ghost feed_of = { feed_section };
+
+    ghost walker = { λ unit. unit.walker };
+
+    fn of(s: FlatWalker) -> Option<Self> {
+        if fit_section(s) {
+            return Some(Section { walker: s });
+        }
+        None
+    }
+
+    fn request(self) -> Request {
+        let s = self.walker;
+        let l = section(s);
+        let d = s.done as u64;
+        let end = section_end(s.done, s.size);
+        Request {
+            offset: l.offset as u64 + d,
+            len: end - d,
+        }
+    }
+
+    // An empty piece may come too.
+    fn feed(self, piece: &[u8]) -> Fed
+        requires { length piece.now ≤ (request_section self.walker).len }
+        ensures { result ≡ feed_section self.walker piece.now }
+    {
+        let s = self.walker;
+        let d = s.done as u64;
+        let n = s.size as u64;
+        if d < 16 {
+            return self.feed_start(piece);
+        }
+        if d < 20 {
+            return self.feed_size(piece);
+        }
+        if d < 20 + n {
+            return self.feed_data(piece);
+        }
+        if d < 22 + n {
+            return self.feed_crc(piece);
+        }
+        self.feed_end(piece)
+    }
 }

@@ -1,8 +1,8 @@
 // The four sentinels: by part, the one at the start and the one at the end (§9, §10.1).
-ghost use Rattle.std.specs.Prelude.{◌≡◌, [], ◌+◌, ◌<◌, ◌≤◌, length, get_or};
+ghost use Rattle.std.specs.Prelude.{◌≡◌, ◌+◌, ◌<◌, ◌≤◌, length};
 ghost use Rattle.account.specs.Statement.{part as span};
 ghost use Rattle.octets.specs.Octets.{same};
-ghost use Rattle.rules.specs.Section.{sentinels};
+ghost use Rattle.section.specs.Section.{sentinel_at};
 
 const SENTINELS: [[[u8; 16]; 2]; 2] = [
     [
@@ -27,21 +27,29 @@ const SENTINELS: [[[u8; 16]; 2]; 2] = [
     ],
 ];
 
-// The sentinel of a part: at its start 0, at its end 1.
-fn sentinel(part: usize, end: usize) -> [u8; 16]
-    requires { (part < 2) × (end < 2) }
-    ensures { result ≡ get_or (get_or sentinels part []) end [] }
+// Where in a section a sentinel stands.
+#[derive(Clone, Copy)]
+pub enum Side {
+    Start,
+    End,
+}
+
+// The sentinel of a part at one of its sides.
+#[tactic(auto, unfolding(rules::specs::Section::sentinels))]
+fn sentinel(part: usize, side: Side) -> [u8; 16]
+    requires { part < 2 }
+    ensures { result ≡ sentinel_at part side }
 {
-    SENTINELS[part][end]
+    SENTINELS[part][side as usize]
 }
 
 // Whether a piece is the part of a sentinel from a place on.
-pub fn spells(part: usize, end: usize, at: usize, piece: &[u8]) -> bool
-    requires part_bound { (part < 2) × (end < 2) }
-    requires piece_bound { at + length piece.now ≤ 16 }
-    ensures { result ≡ same piece.now (span (get_or (get_or sentinels part []) end []) at (length piece.now)) }
+pub fn spells(part: usize, side: Side, at: usize, piece: &[u8]) -> bool
+    requires part { part < 2 }
+    requires inside { at + length piece.now ≤ 16 }
+    ensures { result ≡ same piece.now (span (sentinel_at part side) at (length piece.now)) }
 {
-    let s = sentinel(part, end);
+    let s = sentinel(part, side);
     let e = at + piece.len();
     octets::same(piece, &s[at..e])
 }

@@ -1,15 +1,12 @@
 -- The machine without the test of fitness: what the walk asks for, and what an accepted piece does. That the test never fails in a run stands in Fitness.
+use Rattle.std.specs.Prelude.{Err, Some, None}
 use Prim.Native.Nat.{ℕ}
 use mathlib.Core.List.{List}
 use mathlib.Core.Path.{◌≡◌, refl}
 use Rattle.streaming.specs.State.{failing}
 use Rattle.streaming.specs.declared.Fault.{Fault}
 use Rattle.streaming.specs.declared.StreamError.TheVariants as error
-use Rattle.streaming.specs.declared.Asked.{Asked}
-use Rattle.streaming.specs.declared.Asked.TheVariants as asked
-use Rattle.streaming.specs.declared.Answer.{Answer}
-use Rattle.streaming.specs.declared.Failure.{Failure}
-use Rattle.streaming.specs.declared.Failure.TheVariants as failure
+use Rattle.streaming.specs.Answers.{Asked, Answer, Failure}
 use Rattle.streaming.specs.declared.FlatWalker.{FlatWalker}
 use Rattle.streaming.specs.declared.Fed.{Fed}
 use Rattle.account.specs.Account.{broken}
@@ -18,8 +15,8 @@ use Rattle.flat.specs.Flat.{request_at, feed_at}
 
 -- a held failure, then the stage
 abbrev pub bare_in : Failure → FlatWalker → Asked
-bare_in (failure.Held f) s = asked.Refused (error.Fault f)
-bare_in failure.None s = request_at s.stage s
+bare_in (Some f) s = Err (error.Fault f)
+bare_in None s = request_at s.stage s
 
 unfoldable pub bare_request : FlatWalker → Asked
 bare_request s = bare_in s.failure s

@@ -1,4 +1,5 @@
 -- The machine goes through the chunks of the map as the rules say: size, entries and checksum, then the entries again, then the next chunk.
+use Rattle.std.specs.Prelude.{Ok, None}
 use Prim.Native.Nat.{ℕ, zero, suc, ◌+◌, ◌-◌, ◌≤◌, ◌<◌}
 use mathlib.Core.Bool.{Bool, true, false}
 use mathlib.Core.List.{List, ◌++◌}
@@ -16,9 +17,7 @@ use Rattle.octets.proofs.Sets.{sets-append}
 use Rattle.streaming.specs.Choose.{when◌then◌else◌}
 use Rattle.streaming.specs.State.{in_unit}
 use Rattle.streaming.specs.declared.Fault.TheVariants as fault
-use Rattle.streaming.specs.declared.Asked.TheVariants as asked
 use Rattle.streaming.specs.declared.Stage.TheVariants as stage
-use Rattle.streaming.specs.declared.Failure.TheVariants as failure
 use Rattle.streaming.specs.declared.FlatWalker.{FlatWalker}
 use Rattle.account.specs.Account.{Account, demand, framing}
 use Rattle.account.specs.Asking.{Turn, go, span, passing}
@@ -56,7 +55,7 @@ module _ (d z : ℕ) where
 abbrev in_chunk : FlatWalker → (chunk done size crc : ℕ) (field : List ℕ) → FlatWalker
 in_chunk s chunk done size crc field = in_unit (chunk_at s chunk) stage.Chunk done size crc field
 
-module _ (s : FlatWalker) (chunk : ℕ) (sound : s.failure ≡ failure.None) where
+module _ (s : FlatWalker) (chunk : ℕ) (sound : s.failure ≡ None) where
   abbrev within : (done size crc : ℕ) (field : List ℕ) → FlatWalker
   within = in_chunk s chunk
 
@@ -113,13 +112,13 @@ module _ (s : FlatWalker) (chunk : ℕ) (sound : s.failure ≡ failure.None) whe
 
 -- ---- one chunk, of z bytes without its checksum
 
-module _ (src : List ℕ) (s : FlatWalker) (chunk : ℕ) (sound : s.failure ≡ failure.None) (z : ℕ) (next : Account)
+module _ (src : List ℕ) (s : FlatWalker) (chunk : ℕ) (sound : s.failure ≡ None) (z : ℕ) (next : Account)
     (after : (crc : ℕ) (field : List ℕ) → length field ≡ 4 → On bare src (enter_chunk (in_unit s stage.Chunk 0 0 crc field) (chunk + z + 2)) next) where
   abbrev inside : (done size crc : ℕ) (field : List ℕ) → FlatWalker
   inside = in_chunk s chunk
 
   -- the walk is over
-  done_asks : (c : ℕ) (f : List ℕ) → bare_request (in_unit (chunk_at s chunk) stage.Done 4 2 c f) ≡ asked.Nothing
+  done_asks : (c : ℕ) (f : List ℕ) → bare_request (in_unit (chunk_at s chunk) stage.Done 4 2 c f) ≡ Ok None
   unfolding bare_request
   done_asks c f = rw sound
 
@@ -183,7 +182,7 @@ module _ (src : List ℕ) (s : FlatWalker) (chunk : ℕ) (sound : s.failure ≡ 
 -- ---- the map
 
 -- From any chunk on. The count bounds the recursion alone: it runs out behind the map's end.
-pub chunks_on_lem : (src : List ℕ) (k : ℕ) (s : FlatWalker) (chunk : ℕ) → s.failure ≡ failure.None → length s.field ≡ 4
+pub chunks_on_lem : (src : List ℕ) (k : ℕ) (s : FlatWalker) (chunk : ℕ) → s.failure ≡ None → length s.field ≡ 4
     → map_end s.header ≤ chunk + k → On bare src (enter_chunk s chunk) (ask_chunks s.header src k chunk)
 unfolding enter_chunk ask_chunks chunk_size when◌then◌else◌
 chunks_on_lem src zero s chunk sound n h =
@@ -199,7 +198,7 @@ chunks_on_lem src (suc k) s chunk sound n h =
     λ e. on_failing src (chunk_at s chunk) (fault.MapChunk chunk)
 
 -- The map's size is enough of a count.
-pub map_on : (src : List ℕ) (s : FlatWalker) → s.failure ≡ failure.None → length s.field ≡ 4
+pub map_on : (src : List ℕ) (s : FlatWalker) → s.failure ≡ None → length s.field ≡ 4
     → On bare src (enter_chunk s (map_start s.header)) (ask_chunks s.header src (map_size s.header) (map_start s.header))
 unfolding map_end
 map_on src s sound n = chunks_on_lem src (map_size s.header) s (map_start s.header) sound n (omega arith)

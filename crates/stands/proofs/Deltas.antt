@@ -1,4 +1,5 @@
 -- The machine goes through a delta of the map byte by byte: what its bytes lead to is what the rules read from them all.
+use Rattle.std.specs.Prelude.{None}
 use Prim.Native.Nat.{ℕ, zero, suc, ◌+◌, ◌*◌, ◌-◌, ◌%◌, ◌^◌, min, ◌≤◌, ◌<◌}
 use mathlib.Core.Bool.{Bool, true, false}
 use mathlib.Core.List.{List, [], ◌∷◌, ◌++◌}
@@ -18,8 +19,7 @@ use Rattle.streaming.specs.State.{with_map, at_entry, fell}
 use Rattle.streaming.specs.declared.Fault.TheVariants as fault
 use Rattle.streaming.specs.declared.Stage.{Stage}
 use Rattle.streaming.specs.declared.Stage.TheVariants as stage
-use Rattle.streaming.specs.declared.Failure.{Failure}
-use Rattle.streaming.specs.declared.Failure.TheVariants as failure
+use Rattle.streaming.specs.Answers.{Failure}
 use Rattle.streaming.specs.declared.FlatWalker.{FlatWalker}
 use Rattle.streaming.specs.declared.Fed.{Fed}
 use Rattle.streaming.proofs.Choose.{in_both}
@@ -83,7 +83,7 @@ module _ (src : List ℕ) (s : FlatWalker) (chunk len handle loc field : ℕ) wh
     begun at n none told = told
     begun at n (some groups) told = λ t f. told t λ mc shift value v. let y : value ≡ worth groups = omega arith in rw y (f mc shift)
 
-  module _ (walks : s.stage ≡ stage.Entry) (sound : s.failure ≡ failure.None) (inside : chunk + len ≤ length src) where
+  module _ (walks : s.stage ≡ stage.Entry) (sound : s.failure ≡ None) (inside : chunk + len ≤ length src) where
     -- ---- a byte
 
     module _ (at mc shift : ℕ) where

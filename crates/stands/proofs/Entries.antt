@@ -1,4 +1,5 @@
 -- The machine goes through the entries of a chunk as the rules say, and through the object of each.
+use Rattle.std.specs.Prelude.{None}
 use Prim.Native.Nat.{ℕ, zero, suc, ◌+◌, ◌-◌, ◌^◌, min, ◌≤◌, ◌<◌}
 use mathlib.Core.Bool.{Bool, true, false, ◌&&◌, not, and_comm}
 use mathlib.Core.List.{List}
@@ -13,7 +14,6 @@ use Rattle.streaming.specs.State.{in_unit, with_map, at_entry, stepped, fell}
 use Rattle.streaming.specs.declared.Step.TheVariants as step
 use Rattle.streaming.specs.declared.Fault.TheVariants as fault
 use Rattle.streaming.specs.declared.Stage.TheVariants as stage
-use Rattle.streaming.specs.declared.Failure.TheVariants as failure
 use Rattle.streaming.specs.declared.FlatWalker.{FlatWalker}
 use Rattle.streaming.proofs.Choose.{in_both, and_left}
 use Rattle.account.specs.Account.{Account, framing}
@@ -62,7 +62,7 @@ leave_on src s a f g =
 
 -- what the map needs of a state
 pub record Ready (s : FlatWalker) : Type 0 where
-  pub sound : s.failure ≡ failure.None
+  pub sound : s.failure ≡ None
   pub field : length s.field ≡ 4
   pub head : length s.head ≡ 16
 

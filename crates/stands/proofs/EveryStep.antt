@@ -12,7 +12,7 @@ use Rattle.object.specs.Object.{enter_object, leave_object, object_end, request_
 use Rattle.object.specs.Object.{feed_word, feed_object_data, feed_object_crc, feed_object}
 use Rattle.object.specs.Fit.{behind_entry, object_done, object_consistent, size_in_words, fit_object}
 use Rattle.flat.specs.Fit.{fit_of}
-use Rattle.flat.specs.Flat.{start_of, request_of, end_of, feed_of}
+use Rattle.flat.specs.Flat.{begun_of, request_of, end_of, feed_of}
 
 unfoldable pub every_step : Unit {0}
 unfolding
@@ -24,5 +24,5 @@ unfolding
     request_entry bits_of moved_by settle_location settle_handle more_groups settle_group feed_entry at_byte fit_entry
     enter_object leave_object object_end request_object settle_object_size settle_word settle_verdict settle_object_crc
     feed_word feed_object_data feed_object_crc feed_object behind_entry object_done object_consistent size_in_words fit_object
-    fit_of start_of request_of end_of feed_of
+    fit_of begun_of request_of end_of feed_of
 every_step = tt

@@ -1,16 +1,12 @@
 -- The test of fitness never fails in a run: the walk by calls does as the walker over the machine without the test, and so meets what that one meets.
+use Rattle.std.specs.Prelude.{Ok, Err, Some, None}
 use mathlib.Core.Bool.{Bool, true, false, ◌&&◌}
 use mathlib.Core.Path.{◌≡◌, refl, ap, subst, ◌∙◌}
 use lib.ListN.{length}
 use lib.Dec.{ltb, leb, eqb}
 use Rattle.streaming.specs.Choose.{when◌then◌else◌}
 use Rattle.streaming.specs.declared.FlatHeader.{FlatHeader}
-use Rattle.streaming.specs.declared.Asked.{Asked}
-use Rattle.streaming.specs.declared.Asked.TheVariants as asked
-use Rattle.streaming.specs.declared.Answer.{Answer}
-use Rattle.streaming.specs.declared.Answer.TheVariants as answer
-use Rattle.streaming.specs.declared.Failure.{Failure}
-use Rattle.streaming.specs.declared.Failure.TheVariants as failure
+use Rattle.streaming.specs.Answers.{Asked, Answer, Failure}
 use Rattle.streaming.specs.declared.FlatWalker.{FlatWalker}
 use Rattle.account.specs.Statement.{Call, takes, refusal, ended_by, Walker, Meets}
 use Rattle.account.proofs.Walking.{fed, walker_of}
@@ -18,7 +14,7 @@ use Rattle.account.proofs.Carried.{SameWhere, meets_over}
 use Rattle.rules.specs.Source.{Of}
 use Rattle.rules.specs.Rules.{rules}
 use Rattle.flat.specs.Fit.{is_sound}
-use Rattle.flat.specs.Flat.{start_of, request_in, request_of, end_of, offered, feed_of}
+use Rattle.flat.specs.Flat.{begun_of, request_in, request_of, end_of, offered, feed_of}
 use Rattle.flat.proofs.Keeping.{Keeps}
 use Rattle.flat.proofs.KeepingCalls.{keeps_feed, keeps_start}
 use Rattle.stands.proofs.Bare.{bare_in, bare_request, bare_feed, outcome, bare}
@@ -27,7 +23,7 @@ use Rattle.stands.proofs.Bare.{bare_in, bare_request, bare_feed, outcome, bare}
 
 -- the header variables are entered
 abbrev pub begun : FlatHeader → FlatWalker
-begun h = (start_of h).state
+begun = begun_of
 
 abbrev pub flat_feed : FlatWalker → Call → Answer × FlatWalker
 flat_feed s c = outcome (feed_of s c.offset c.piece)
@@ -43,20 +39,20 @@ unfolding request_of bare_request when◌then◌else◌
 same-request s kept = by_failure s.failure refl
   where
     by_failure : (f : Failure) → s.failure ≡ f → request_in f s ≡ bare_in f s
-    by_failure failure.None e = rw (kept (ap is_sound e))
-    by_failure (failure.Held f) e = refl
+    by_failure None e = rw (kept (ap is_sound e))
+    by_failure (Some f) e = refl
 
 -- by what is asked for
 offered_taken : (q : Asked) (s : FlatWalker) (c : Call)
-    → outcome (offered q s c.offset c.piece) ≡ when takes q c then bare_feed s c.piece else (answer.Refused (refusal q c), s)
+    → outcome (offered q s c.offset c.piece) ≡ when takes q c then bare_feed s c.piece else (Err (refusal q c), s)
 unfolding bare_feed when◌then◌else◌
-offered_taken asked.Nothing s c = refl
-offered_taken (asked.Refused e) s c = refl
-offered_taken (asked.Demand r) s c = split (eqb c.offset r.offset) refl (ltb 0 (length c.piece) && leb (length c.piece) r.len) refl
+offered_taken (Ok None) s c = refl
+offered_taken (Err e) s c = refl
+offered_taken (Ok (Some r)) s c = split (eqb c.offset r.offset) refl (ltb 0 (length c.piece) && leb (length c.piece) r.len) refl
   where
     split : (a : Bool) → eqb c.offset r.offset ≡ a → (b : Bool) → (ltb 0 (length c.piece) && leb (length c.piece) r.len) ≡ b
-        → outcome (offered (asked.Demand r) s c.offset c.piece)
-        ≡ when takes (asked.Demand r) c then bare_feed s c.piece else (answer.Refused (refusal (asked.Demand r) c), s)
+        → outcome (offered (Ok (Some r)) s c.offset c.piece)
+        ≡ when takes (Ok (Some r)) c then bare_feed s c.piece else (Err (refusal (Ok (Some r)) c), s)
     split true e true k = rw (e, k)
     split true e false k = rw (e, k)
     split false e b k = rw e

@@ -14,7 +14,7 @@ use Rattle.octets.proofs.Sets.{take-sets}
 use Rattle.streaming.specs.Choose.{when◌then◌else◌}
 use Rattle.streaming.specs.State.{failing, fell}
 use Rattle.streaming.specs.declared.Fault.{Fault}
-use Rattle.streaming.specs.declared.Answer.{Answer}
+use Rattle.streaming.specs.Answers.{Answer}
 use Rattle.streaming.specs.declared.FlatWalker.{FlatWalker}
 use Rattle.streaming.specs.declared.Fed.{Fed}
 use Rattle.account.specs.Account.{Account, over, broken}

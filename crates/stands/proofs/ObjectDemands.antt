@@ -1,5 +1,6 @@
 -- Each demand of an object, told once: a size word, the data, the checksum. Short names: d bytes are done, z is the size, c the checksum so far, f the
 -- field, h the head (the first bytes of the data), ms the bytes of the size field, wd its words.
+use Rattle.std.specs.Prelude.{None}
 use Prim.Native.Nat.{ℕ, ◌+◌, ◌-◌, ◌%◌, ◌≤◌, ◌<◌}
 use mathlib.Core.List.{List, ◌++◌}
 use mathlib.Core.Path.{◌≡◌, refl, ap₂}
@@ -16,7 +17,6 @@ use Rattle.streaming.specs.Choose.{when◌then◌else◌}
 use Rattle.streaming.specs.State.{in_unit, with_object}
 use Rattle.streaming.specs.declared.Part.TheVariants.{Object}
 use Rattle.streaming.specs.declared.Stage.TheVariants as stage
-use Rattle.streaming.specs.declared.Failure.TheVariants as failure
 use Rattle.streaming.specs.declared.FlatWalker.{FlatWalker}
 use Rattle.account.specs.Account.{demand, framing, payload}
 use Rattle.account.proofs.Walks.{Phase}
@@ -46,7 +46,7 @@ module _ (d z ms : ℕ) where
 abbrev pub in_object : FlatWalker → (location done size crc : ℕ) (field head : List ℕ) (ms_len words : ℕ) → FlatWalker
 in_object s location done size crc field head ms_len words = with_object (in_unit s stage.Object done size crc field) head location ms_len words
 
-module _ (s : FlatWalker) (location : ℕ) (sound : s.failure ≡ failure.None) where
+module _ (s : FlatWalker) (location : ℕ) (sound : s.failure ≡ None) where
   abbrev inside : (done size crc : ℕ) (field head : List ℕ) (ms_len words : ℕ) → FlatWalker
   inside = in_object s location
 

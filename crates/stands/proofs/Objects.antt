@@ -1,4 +1,5 @@
 -- The machine goes through an object as the rules say: one or two size words, the data, the checksum, the verdict. (Short names: ObjectDemands.)
+use Rattle.std.specs.Prelude.{None}
 use Prim.Native.Nat.{ℕ, ◌+◌, ◌*◌, ◌%◌, ◌^◌, min, ◌≤◌, ◌<◌}
 use mathlib.Core.Bool.{Bool, true, false}
 use mathlib.Core.List.{List}
@@ -18,7 +19,6 @@ use Rattle.streaming.specs.State.{in_unit, with_object, fell}
 use Rattle.streaming.specs.declared.Part.TheVariants.{Object}
 use Rattle.streaming.specs.declared.Fault.TheVariants as fault
 use Rattle.streaming.specs.declared.Stage.TheVariants as stage
-use Rattle.streaming.specs.declared.Failure.TheVariants as failure
 use Rattle.streaming.specs.declared.FlatWalker.{FlatWalker}
 use Rattle.account.specs.Account.{Account, framing, payload}
 use Rattle.account.specs.Asking.{Turn, go, span}
@@ -57,7 +57,7 @@ head_at src h at z k n =
 
 -- ---- and what each decision leads to
 
-module _ (src : List ℕ) (s : FlatWalker) (location : ℕ) (sound : s.failure ≡ failure.None) (next : Account)
+module _ (src : List ℕ) (s : FlatWalker) (location : ℕ) (sound : s.failure ≡ None) (next : Account)
     (after : (done size crc ms_len words : ℕ) (field head : List ℕ) → length field ≡ 4 → length head ≡ 16
     → On bare src (leave_object (in_object s location done size crc field head ms_len words)) next) where
   abbrev handle : ℕ
@@ -180,7 +180,7 @@ module _ (src : List ℕ) (s : FlatWalker) (location : ℕ) (sound : s.failure �
 
 -- ---- entered at a location
 
-pub object_lands : (src : List ℕ) (s : FlatWalker) (location : ℕ) → s.failure ≡ failure.None → length s.field ≡ 4 → length s.head ≡ 16
+pub object_lands : (src : List ℕ) (s : FlatWalker) (location : ℕ) → s.failure ≡ None → length s.field ≡ 4 → length s.head ≡ 16
     → (next : Account)
     → ((done size crc ms_len words : ℕ) (field head : List ℕ) → length field ≡ 4 → length head ≡ 16
     → On bare src (leave_object (with_object (in_unit s stage.Object done size crc field) head location ms_len words)) next)

@@ -1,5 +1,6 @@
 -- Each demand of a section, told once: the start sentinel, the size, the data, the checksum, the end sentinel. Short names: d bytes are done, z is the
 -- size, c the checksum so far, f the field.
+use Rattle.std.specs.Prelude.{Ok, Some, None}
 use Prim.Native.Nat.{ℕ, zero, suc, ◌+◌, ◌-◌, ◌≤◌, ◌<◌}
 use mathlib.Core.List.{List, ◌++◌}
 use mathlib.Core.Path.{◌≡◌, refl, ap, ap₂, ◌∙◌}
@@ -18,10 +19,8 @@ use Rattle.streaming.specs.Numbers.{part_number}
 use Rattle.streaming.specs.State.{in_unit, failing}
 use Rattle.streaming.specs.declared.Fault.{Fault}
 use Rattle.streaming.specs.declared.Fault.TheVariants as fault
-use Rattle.streaming.specs.declared.Asked.TheVariants as asked
 use Rattle.streaming.specs.declared.Stage.{Stage}
 use Rattle.streaming.specs.declared.Stage.TheVariants as stage
-use Rattle.streaming.specs.declared.Failure.TheVariants as failure
 use Rattle.streaming.specs.declared.FlatWalker.{FlatWalker}
 use Rattle.account.specs.Account.{demand, framing, payload}
 use Rattle.account.specs.Statement.{part}
@@ -46,7 +45,7 @@ pub is_section : {g : Stage} → InSection g → IsSection (part_of g)
 is_section vars = IsSection.vars
 is_section classes = IsSection.classes
 
-requests : {g : Stage} → InSection g → (s : FlatWalker) → request_at g s ≡ asked.Demand (request_section s)
+requests : {g : Stage} → InSection g → (s : FlatWalker) → request_at g s ≡ Ok (Some (request_section s))
 requests vars s = refl
 requests classes s = refl
 
@@ -88,7 +87,7 @@ set_going : (c d : ℕ) → 0 < d → start_crc c d ≡ seed
 set_going c zero h = absurd (omega arith)
 set_going c (suc d) h = refl
 
-module _ (s : FlatWalker) (g : Stage) (isg : InSection g) (sound : s.failure ≡ failure.None) where
+module _ (s : FlatWalker) (g : Stage) (isg : InSection g) (sound : s.failure ≡ None) where
   abbrev offset : ℕ
   offset = (locator_of s.header (part_number (part_of g))).offset
 

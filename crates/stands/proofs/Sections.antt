@@ -1,5 +1,6 @@
 -- The machine goes through a section as the rules say: the start sentinel, the size, the data, the checksum, the end sentinel. (Short names:
 -- SectionDemands.)
+use Rattle.std.specs.Prelude.{None}
 use Prim.Native.Nat.{ℕ, ◌+◌}
 use mathlib.Core.Bool.{Bool, true, false}
 use mathlib.Core.List.{List}
@@ -16,7 +17,6 @@ use Rattle.streaming.specs.Numbers.{part_number}
 use Rattle.streaming.specs.State.{in_unit}
 use Rattle.streaming.specs.declared.Fault.TheVariants as fault
 use Rattle.streaming.specs.declared.Stage.{Stage}
-use Rattle.streaming.specs.declared.Failure.TheVariants as failure
 use Rattle.streaming.specs.declared.FlatWalker.{FlatWalker}
 use Rattle.account.specs.Account.{Account, framing, payload}
 use Rattle.account.specs.Asking.{go, span, spell}
@@ -33,7 +33,7 @@ use Rattle.stands.proofs.Bare.{bare}
 use Rattle.stands.proofs.Landing.{field_at, crc_at, Land, land_if, land_fell, on_if, on_failing}
 use Rattle.stands.proofs.SectionDemands.{InSection, is_section, start_spelled, size_phase, data_phase, crc_phase, end_spelled}
 
-module _ (src : List ℕ) (s : FlatWalker) (g : Stage) (isg : InSection g) (sound : s.failure ≡ failure.None) (next : Account)
+module _ (src : List ℕ) (s : FlatWalker) (g : Stage) (isg : InSection g) (sound : s.failure ≡ None) (next : Account)
     (after : (done size crc : ℕ) (field : List ℕ) → length field ≡ 4 → On bare src (enter_next g (in_unit s g done size crc field)) next) where
   abbrev start : ℕ
   start = (locator_of s.header (part_number (part_of g))).offset
@@ -117,7 +117,7 @@ module _ (src : List ℕ) (s : FlatWalker) (g : Stage) (isg : InSection g) (soun
 
 -- ---- entered
 
-pub section_on : (src : List ℕ) (s : FlatWalker) (g : Stage) → InSection g → s.failure ≡ failure.None → length s.field ≡ 4 → (next : Account)
+pub section_on : (src : List ℕ) (s : FlatWalker) (g : Stage) → InSection g → s.failure ≡ None → length s.field ≡ 4 → (next : Account)
     → ((done size crc : ℕ) (field : List ℕ) → length field ≡ 4 → On bare src (enter_next g (in_unit s g done size crc field)) next)
     → On bare src (enter_section s g)
     (ask_section src (part_of g) (locator_of s.header (part_number (part_of g))).offset (locator_of s.header (part_number (part_of g))).size next)

@@ -1,4 +1,5 @@
 -- Four useless walkers, and that none of them meets the statement: each breaks on the whole case.
+use Rattle.std.specs.Prelude.{Ok, Err}
 use Prim.Native.Nat.{ℕ}
 use mathlib.Core.Bool.{Bool, true, false}
 use mathlib.Core.List.{[], ◌∷◌}
@@ -13,10 +14,7 @@ use Rattle.streaming.specs.declared.Part.TheVariants.{HeaderVars}
 use Rattle.streaming.specs.declared.Step.{Step}
 use Rattle.streaming.specs.declared.Step.TheVariants as step
 use Rattle.streaming.specs.declared.StreamError.TheVariants as error
-use Rattle.streaming.specs.declared.Asked.{Asked}
-use Rattle.streaming.specs.declared.Ended.{Ended}
-use Rattle.streaming.specs.declared.Answer.{Answer}
-use Rattle.streaming.specs.declared.Answer.TheVariants as answer
+use Rattle.streaming.specs.Answers.{Asked, Ended, Answer}
 use Rattle.account.specs.Account.{demand, framing}
 use Rattle.account.specs.Statement.{answer_of, after, Walker, Meets}
 use Rattle.account.specs.Runs.{run}
@@ -32,12 +30,12 @@ use Rattle.stands.proofs.WholeCase.{at}
 -- ---- one that refuses everything, though it asks as it should
 
 abbrev pub refuser : Walker FlatHeader
-refuser = instead flat_walker flat_walker.request (λ s c. (answer.Refused error.Finished, s)) flat_walker.end_of_input
+refuser = instead flat_walker flat_walker.request (λ s c. (Err error.Finished, s)) flat_walker.end_of_input
 
 pub refuser_fails : Meets Of rules refuser → ⊥
 unfolding Meets answer_of every_rule
 refuser_fails meets =
-    let e : answer.Refused error.Finished ≡ framing = (meets whole_header whole whole_case.is_whole (at 70 1 ∷ []) (λ t. refl, tt)).1 in
+    let e : Err error.Finished ≡ framing = (meets whole_header whole whole_case.is_whole (at 70 1 ∷ []) (λ t. refl, tt)).1 in
     let z : ◌≡◌ {A = ℕ} 0 1 = cc in omega arith
 
 -- ---- any one with a fixed answer: the same request, the same step and the same end, whatever comes
@@ -64,13 +62,13 @@ hushed_step (step.Object r) = step.Framing
 hushed_step step.Finished = step.Finished
 
 abbrev hushed : Answer → Answer
-hushed (answer.Step s) = answer.Step (hushed_step s)
-hushed (answer.Refused e) = answer.Refused e
+hushed (Ok s) = Ok (hushed_step s)
+hushed (Err e) = Err e
 
 abbrev pub silent : Walker FlatHeader
 silent = instead flat_walker flat_walker.request (λ s c. (hushed (flat_feed s c).0, (flat_feed s c).1)) flat_walker.end_of_input
 
-hushed_step_lem : (s : Step) → committed_in (answer.Step (hushed_step s)) ≡ []
+hushed_step_lem : (s : Step) → committed_in (Ok (hushed_step s)) ≡ []
 hushed_step_lem step.Framing = refl
 hushed_step_lem (step.Payload p) = refl
 hushed_step_lem (step.Section r) = refl
@@ -78,8 +76,8 @@ hushed_step_lem (step.Object r) = refl
 hushed_step_lem step.Finished = refl
 
 hushed_commits : (a : Answer) → committed_in (hushed a) ≡ []
-hushed_commits (answer.Step s) = hushed_step_lem s
-hushed_commits (answer.Refused e) = refl
+hushed_commits (Ok s) = hushed_step_lem s
+hushed_commits (Err e) = refl
 
 -- the header variables are whole, and committed by the rules
 pub silent_fails : Meets Of rules silent → ⊥
@@ -94,7 +92,7 @@ silent_fails meets =
 -- ---- one that commits the object at its first piece, and idles after
 
 abbrev early : Answer
-early = answer.Step (step.Object (object_record 5 146 3 (record { type = 0; handle = 5 })))
+early = Ok (step.Object (object_record 5 146 3 (record { type = 0; handle = 5 })))
 
 -- true before the first piece
 abbrev pub eager : Walker FlatHeader

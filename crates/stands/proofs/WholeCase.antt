@@ -1,12 +1,11 @@
 -- The whole case through the walk by calls, computed to its end and cut in two ways: the premises of the theorems are met, and all three records come.
+use Rattle.std.specs.Prelude.{Ok, None}
 use Prim.Native.Nat.{ℕ, zero, suc}
 use mathlib.Core.Bool.{false≢true}
 use mathlib.Core.List.{List, [], ◌∷◌}
 use mathlib.Core.Path.{◌≡◌, refl, ap}
 use lib.ListN.{length, take, drop}
 use Rattle.streaming.specs.declared.Part.TheVariants.{HeaderVars, Classes}
-use Rattle.streaming.specs.declared.Asked.TheVariants as asked
-use Rattle.streaming.specs.declared.Ended.TheVariants as ended
 use Rattle.streaming.specs.declared.FlatWalker.{FlatWalker}
 use Rattle.account.specs.Statement.{Call, part, Honest}
 use Rattle.account.specs.Runs.{run, bytes, committed}
@@ -66,8 +65,8 @@ honest_cut = (λ e. refl, (λ e. absurd (false≢true e), honest-cuts ((75, 11) 
 -- the three records, nothing left to ask for, and 97 bytes taken
 pub record AllOf (cs : List Call) : Type 0 where
   pub records : committed flat_walker (begun whole_header) cs ≡ S HeaderVars 70 0 ∷ S Classes 108 0 ∷ O 5 146 3 0 ∷ []
-  pub request : flat_walker.request (run flat_walker (begun whole_header) cs) ≡ asked.Nothing
-  pub end_of_input : flat_walker.end_of_input (run flat_walker (begun whole_header) cs) ≡ ended.Whole
+  pub request : flat_walker.request (run flat_walker (begun whole_header) cs) ≡ Ok None
+  pub end_of_input : flat_walker.end_of_input (run flat_walker (begun whole_header) cs) ≡ Ok tt
   pub taken : bytes flat_walker (begun whole_header) cs ≡ 97
 
 pub all_of_whole : AllOf whole_demands

@@ -1,11 +1,10 @@
 -- What a walk commits: a section or an object that passed every check.
-use Rattle.std.specs.Prelude.{ℕ, suc, List, [], ◌∷◌}
+use Rattle.std.specs.Prelude.{ℕ, suc, List, [], ◌∷◌, Ok, Err}
 use Rattle.streaming.specs.declared.SectionRecord.{SectionRecord}
 use Rattle.streaming.specs.declared.ObjectRecord.{ObjectRecord}
 use Rattle.streaming.specs.declared.Step.{Step}
 use Rattle.streaming.specs.declared.Step.TheVariants as step
-use Rattle.streaming.specs.declared.Answer.{Answer}
-use Rattle.streaming.specs.declared.Answer.TheVariants as answer
+use Rattle.streaming.specs.Answers.{Answer}
 
 pub data Record : Type 0 where
   section : SectionRecord → Record
@@ -21,8 +20,8 @@ committed_by step.Finished = []
 
 -- a refused call commits nothing
 abbrev pub committed_in : Answer → List Record
-committed_in (answer.Step s) = committed_by s
-committed_in (answer.Refused e) = []
+committed_in (Ok s) = committed_by s
+committed_in (Err e) = []
 
 -- how many records are objects
 abbrev pub objects_in : List Record → ℕ

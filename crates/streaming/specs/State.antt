@@ -1,14 +1,12 @@
 -- States made from a state: the same but for some of its fields. A record is written out whole only here.
-use Rattle.std.specs.Prelude.{ℕ, List}
+use Rattle.std.specs.Prelude.{ℕ, List, Ok, Err, Some}
 use Rattle.streaming.specs.declared.Step.{Step}
 use Rattle.streaming.specs.declared.Step.TheVariants as step
 use Rattle.streaming.specs.declared.Fault.{Fault}
 use Rattle.streaming.specs.declared.StreamError.{StreamError}
 use Rattle.streaming.specs.declared.StreamError.TheVariants as error
-use Rattle.streaming.specs.declared.Answer.TheVariants as answer
 use Rattle.streaming.specs.declared.Stage.{Stage}
 use Rattle.streaming.specs.declared.MapCursor.{MapCursor}
-use Rattle.streaming.specs.declared.Failure.TheVariants as failure
 use Rattle.streaming.specs.declared.FlatWalker.{FlatWalker}
 use Rattle.streaming.specs.declared.Fed.{Fed}
 
@@ -77,7 +75,7 @@ failing s f = record {
   ms_len = s.ms_len;
   words = s.words;
   map = s.map;
-  failure = failure.Held f;
+  failure = Some f;
 }
 
 -- ---- the map's cursor
@@ -93,7 +91,7 @@ at_entry chunk len at handle loc mc shift field = record { chunk = chunk; len = 
 -- ---- answers
 
 abbrev pub stepped : Step → FlatWalker → Fed
-stepped step s = record { answer = answer.Step step; state = s }
+stepped step s = record { answer = Ok step; state = s }
 
 -- the unit in hand goes on, and nothing of it is payload
 abbrev pub goes_on : FlatWalker → (done size crc : ℕ) → (field : List ℕ) → Fed
@@ -101,8 +99,8 @@ goes_on s done size crc field = stepped step.Framing (in_unit s s.stage done siz
 
 -- a refused call leaves the state as it was
 abbrev pub refused_by : StreamError → FlatWalker → Fed
-refused_by e s = record { answer = answer.Refused e; state = s }
+refused_by e s = record { answer = Err e; state = s }
 
 -- a fault is answered and held
 abbrev pub fell : Fault → FlatWalker → Fed
-fell f s = record { answer = answer.Refused (error.Fault f); state = failing s f }
+fell f s = record { answer = Err (error.Fault f); state = failing s f }

@@ -6,6 +6,10 @@ ghost use Rattle.streaming.specs.Numbers.{part_number};
 ghost use Rattle.streaming.specs.State.{in_unit, with_object, goes_on};
 ghost use Rattle.streaming.specs.State.{failing, stepped, fell};
 
+pub use unit::Unit;
+
+mod unit;
+
 // A section locator.
 #[derive(Clone, Copy)]
 pub struct Locator {
@@ -39,13 +43,15 @@ pub enum Part {
 }
 
 // Document 01's number of a part.
-pub fn part_number(part: Part) -> u8
-    ensures { result ≡ part_number part }
-{
-    match part {
-        Part::HeaderVars => 0,
-        Part::Classes => 1,
-        Part::Object => 2,
+impl From<Part> for u8 {
+    ghost from_gives = { λ part n. n ≡ part_number part };
+
+    fn from(part: Part) -> u8 {
+        match part {
+            Part::HeaderVars => 0,
+            Part::Classes => 1,
+            Part::Object => 2,
+        }
     }
 }
 
@@ -58,7 +64,7 @@ pub struct SectionRecord {
 }
 
 // A committed object: checksum, prologue and map handle all agree.
-#[derive(Clone, Copy)]
+#[derive(Clone, Copy, PartialEq, Eq)]
 pub struct ObjectRecord {
     pub handle: u64,
     pub offset: u64,
@@ -124,28 +130,6 @@ pub enum StreamError {
     BadState,
 }
 
-// The answer to `request`: a demand, nothing more, or a refusal.
-#[derive(Clone, Copy)]
-pub enum Asked {
-    Demand(Request),
-    Nothing,
-    Refused(StreamError),
-}
-
-// The answer to `feed`: what the piece was, or why it was refused.
-#[derive(Clone, Copy)]
-pub enum Answer {
-    Step(Step),
-    Refused(StreamError),
-}
-
-// The answer to `end_of_input`: the walk is whole, or what it still wants or was refused for.
-#[derive(Clone, Copy)]
-pub enum Ended {
-    Whole,
-    Refused(StreamError),
-}
-
 // Where the walk stands.
 #[derive(Clone, Copy)]
 pub enum Stage {
@@ -158,7 +142,7 @@ pub enum Stage {
 }
 
 // The object map's position, kept while objects are visited.
-#[derive(Clone, Copy)]
+#[derive(Clone, Copy, PartialEq, Eq)]
 pub struct MapCursor {
     pub chunk: u64,
     pub len: u32,
@@ -168,13 +152,6 @@ pub struct MapCursor {
     pub mc: u64,
     pub shift: u8,
     pub field: u8,
-}
-
-// The fault that is held, if any.
-#[derive(Clone, Copy)]
-pub enum Failure {
-    None,
-    Held(Fault),
 }
 
 // The state of a walk. It goes into a call by value and comes back in the call's answer.
@@ -191,27 +168,14 @@ pub struct FlatWalker {
     pub ms_len: u8,
     pub words: u8,
     pub map: MapCursor,
-    pub failure: Failure,
-}
-
-// The answer to `start`: a walk has begun, or the header is refused.
-#[derive(Clone, Copy)]
-pub enum Start {
-    Begun,
-    Refused(StreamError),
-}
-
-// What `start` gives back. Where the header is refused there is no walk: the state is not to be used.
-#[derive(Clone, Copy)]
-pub struct Started {
-    pub answer: Start,
-    pub state: FlatWalker,
+    // The fault that is held, if any.
+    pub failure: Option<Fault>,
 }
 
 // What `feed` gives back: the answer, and the state to go on with. A refused offset or length gives the state back as it was.
 #[derive(Clone, Copy)]
 pub struct Fed {
-    pub answer: Answer,
+    pub answer: Result<Step, StreamError>,
     pub state: FlatWalker,
 }
 
@@ -254,7 +218,7 @@ pub fn failing(s: FlatWalker, f: Fault) -> FlatWalker
     ensures { result ≡ failing s f }
 {
     FlatWalker {
-        failure: Failure::Held(f),
+        failure: Some(f),
         ..s
     }
 }
@@ -264,7 +228,7 @@ pub fn stepped(step: Step, s: FlatWalker) -> Fed
     ensures { result ≡ stepped step s }
 {
     Fed {
-        answer: Answer::Step(step),
+        answer: Ok(step),
         state: s,
     }
 }
@@ -282,7 +246,7 @@ pub fn fell(f: Fault, s: FlatWalker) -> Fed
     ensures { result ≡ fell f s }
 {
     Fed {
-        answer: Answer::Refused(StreamError::Fault(f)),
+        answer: Err(StreamError::Fault(f)),
         state: failing(s, f),
     }
 }

@@ -1,4 +1,5 @@
 -- Laws of an object that is looked at field by field: where the first fault is, or the source ends, the walk ends there.
+use Rattle.std.specs.Prelude.{Result, Ok, Err, MatchResult, IsErrAnd}
 use Prim.Native.Nat.{ℕ, ◌+◌, ◌*◌, ◌-◌, ◌%◌, min, ◌<◌, ◌≤◌}
 use mathlib.Core.Bool.{true, false}
 use mathlib.Core.List.{List}
@@ -9,7 +10,12 @@ use lib.Seq.{take-take}
 use borrow.Author.Tests.{lt-ltb, le-ltb, eq-eqb, ne_eqb}
 use Rattle.streaming.specs.Choose.{when◌then◌else◌}
 use Rattle.streaming.specs.declared.FlatHeader.{FlatHeader}
+use Rattle.streaming.specs.declared.ObjectRecord.{ObjectRecord}
+use Rattle.streaming.specs.declared.Fault.{Fault}
 use Rattle.streaming.specs.declared.Fault.TheVariants as fault
+use Rattle.streaming.specs.Answers.{Asked}
+use Rattle.object.specs.Object.{verdict_of}
+use Rattle.survey.specs.Goes.{object_goes}
 use Rattle.account.specs.Statement.{part}
 use Rattle.account.specs.Account.{demand, broken}
 use Rattle.account.proofs.Parts.{part-drop}
@@ -90,3 +96,11 @@ module _ (h : FlatHeader) (src : List ℕ) (handle location field size : ℕ) (c
       → verdict h src handle location field size ≡ named handle location size (prologue_of (is_r2000 h) (part src (location + field) (min size 16)))
   unfolding verdict when◌then◌else◌
   by_prologue k = rw (← c, ← d, eq-eqb stored computed k, take_min 16 size (drop (location + field) src))
+
+-- what was found out goes on as the walk does
+pub verdict_goes : (r : Result ObjectRecord Fault) (q : Result ObjectRecord Asked) (rest : Listing)
+    → MatchResult r (λ o. q ≡ Ok o) (λ f. IsErrAnd q (λ a. a ≡ broken f)) → verdict_then (verdict_of r) rest ≡ object_goes q rest
+unfolding verdict_then
+verdict_goes (Ok o) q rest e = rw e
+verdict_goes (Err f) (Ok x) rest e = absurd e
+verdict_goes (Err f) (Err a) rest e = rw e

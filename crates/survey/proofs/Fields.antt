@@ -13,19 +13,20 @@ use Rattle.streaming.specs.declared.Fault.TheVariants as fault
 use Rattle.octets.specs.Octets.{same}
 use Rattle.account.specs.Statement.{part}
 use Rattle.account.specs.Account.{broken}
+use Rattle.section.specs.Section.{sentinel_at}
+use Rattle.section.specs.declared.sentinels.Side.{Side}
+use Rattle.section.specs.declared.sentinels.Side.TheVariants.{Start, End}
 use Rattle.rules.specs.Section.{sentinels, section_size, section_computed, section_stored, section_record}
 use Rattle.rules.specs.PlainList.{Listing, stop, first, require, section_then}
 
 -- a sentinel has 16 bytes
-pub whole_sentinel : (p e : ℕ) → p < 2 → e < 2 → part (get_or (get_or sentinels p []) e []) 0 16 ≡ get_or (get_or sentinels p []) e []
+pub whole_sentinel : (p : ℕ) (side : Side) → p < 2 → part (sentinel_at p side) 0 16 ≡ sentinel_at p side
 unfolding sentinels
-whole_sentinel zero zero h k = refl
-whole_sentinel zero (suc zero) h k = refl
-whole_sentinel (suc zero) zero h k = refl
-whole_sentinel (suc zero) (suc zero) h k = refl
-whole_sentinel zero (suc (suc e)) h k = absurd (omega arith)
-whole_sentinel (suc zero) (suc (suc e)) h k = absurd (omega arith)
-whole_sentinel (suc (suc p)) e h k = absurd (omega arith)
+whole_sentinel zero Start h = refl
+whole_sentinel zero End h = refl
+whole_sentinel (suc zero) Start h = refl
+whole_sentinel (suc zero) End h = refl
+whole_sentinel (suc (suc p)) side h = absurd (omega arith)
 
 module _ (src : List ℕ) (p : Part) (start total number : ℕ) (is : number ≡ part_number p) (rest : Listing) where
   abbrev goes : Listing

@@ -1,56 +1,54 @@
 -- Laws of a delta's bytes: how far it goes, and the number that its groups make.
-use Prim.Native.Nat.{ℕ, zero, suc, ◌+◌, ◌*◌, ◌/◌, ◌%◌, ◌^◌, min, ◌≤◌, ◌<◌}
+use Prim.Native.Nat.{ℕ, zero, suc, ◌+◌, ◌*◌, ◌/◌, ◌%◌, ◌^◌, ◌≤◌, ◌<◌}
 use mathlib.Core.Bool.{Bool, true, false}
-use mathlib.Core.List.{List, [], ◌∷◌}
-use mathlib.Core.Option.{Option, none, some}
+use mathlib.Core.List.{List, [], ◌∷◌, reverse}
+use mathlib.Core.Option.{none, some}
+use mathlib.Core.Option as rules
 use mathlib.Core.Path.{◌≡◌, refl, ap, ◌∙◌}
 use native.Mathlib.Omega.{arith}
-use lib.ListN.{length, take, drop, get_or, length-take, length-drop}
-use lib.Seq.{take-take, drop-cons, drop-length}
+use lib.ListN.{length, take, get_or, length-take}
+use lib.Seq.{take-take}
 use native.Mathlib.Nat.{pow-succ', pow-le-pow_right, mul-le-mul_left}
 use lib.Dec.{ltb, eqb}
-use borrow.Author.Tests.{lt-ltb, le-ltb, eqb-true, eqb-false}
+use borrow.Author.Tests.{lt-ltb, le-ltb, ltb-true, ltb-false}
+use Rattle.std.specs.Prelude.{Some, None, option_map, position, fold, cond, nat_lt}
+use Rattle.std.specs.List.{position_or_len}
+use Rattle.std.proofs.lemmas.Grind.{reverse_onto}
+use Rattle.std.proofs.lemmas.List.Sums.{fold_push}
 use Rattle.streaming.specs.Choose.{when◌then◌else◌}
 use Rattle.streaming.proofs.Choose.{in_both}
 use Rattle.rules.specs.Entry.{before, groups_of, delta_in, handle_delta, magnitude, is_back}
 use Rattle.rules.proofs.Entry.{Short, groups_short}
 use Rattle.survey.specs.Entries.{groups_read, groups_then}
-use Rattle.survey.specs.declared.entries.Groups.TheVariants as groups
 
--- ---- how far a delta goes
+-- ---- how far a delta goes: up to the first byte whose high bit is clear
 
--- the first i bytes all say that more follow
-abbrev pub GoesOn : List ℕ → ℕ → Type 0
-GoesOn bytes i = (j : ℕ) → j < i → 0x80 ≤ get_or bytes j 0
+abbrev pub is_last : ℕ → Bool
+is_last b = nat_lt b 0x80
 
-pub goes_further : (bytes : List ℕ) (i : ℕ) → GoesOn bytes i → 0x80 ≤ get_or bytes i 0 → GoesOn bytes (i + 1)
-goes_further bytes i g h j l = split (eqb j i) refl
+longer_read : (b : ℕ) (o : rules.Option (List ℕ)) → groups_read (before b o) ≡ option_map suc (groups_read o)
+longer_read b none = refl
+longer_read b (some gs) = refl
+
+further : (n m : ℕ) → option_map suc (option_map suc (cond (nat_lt n m) (Some n) None)) ≡ option_map suc (cond (nat_lt (1 + n) (suc m)) (Some (1 + n)) None)
+further n m = split (ltb n m) refl
   where
-    split : (b : Bool) → eqb j i ≡ b → 0x80 ≤ get_or bytes j 0
-    split true e = rw (eqb-true j i e) h
-    split false e = g j (omega (arith, eqb-false j i e))
+    split : (d : Bool) → ltb n m ≡ d → option_map suc (option_map suc (cond (nat_lt n m) (Some n) None)) ≡ option_map suc (cond (nat_lt (1 + n) (suc m)) (Some (1 + n)) None)
+    split true e = let one : suc n ≡ 1 + n = omega arith in let less : 1 + n < suc m = omega (arith, ltb-true n m e) in rw (e, lt-ltb (1 + n) (suc m) less) (ap (λ (k : ℕ). Some (suc k)) one)
+    split false e = let more : suc m ≤ 1 + n = omega (arith, ltb-false n m e) in rw (e, le-ltb (1 + n) (suc m) more)
 
-pub groups_whole : (bytes : List ℕ) (k i : ℕ) → i < k → i < length bytes → GoesOn bytes i → get_or bytes i 0 < 0x80
-    → groups_of (take k bytes) ≡ some (take (suc i) bytes)
+pub position_groups : (bytes : List ℕ) → groups_read (groups_of bytes) ≡ option_map suc (position is_last bytes)
 unfolding groups_of when◌then◌else◌
-groups_whole [] k i a l g h = absurd (omega arith)
-groups_whole (b ∷ bs) zero i a l g h = absurd (omega arith)
-groups_whole (b ∷ bs) (suc k) zero a l g h = rw (lt-ltb b 0x80 h)
-groups_whole (b ∷ bs) (suc k) (suc i) a l g h =
-    rw (le-ltb b 0x80 (g 0 (omega arith)), groups_whole bs k i (omega arith) (omega arith) (λ j m. g (suc j) (omega arith)) h)
-
-pub groups_unending : (bytes : List ℕ) (k i : ℕ) → min k (length bytes) ≤ i → GoesOn bytes i → groups_of (take k bytes) ≡ none
-unfolding groups_of when◌then◌else◌
-groups_unending [] zero i a g = refl
-groups_unending [] (suc k) i a g = refl
-groups_unending (b ∷ bs) zero i a g = refl
-groups_unending (b ∷ bs) (suc k) zero a g = absurd (omega arith)
-groups_unending (b ∷ bs) (suc k) (suc i) a g =
-    rw (le-ltb b 0x80 (g 0 (omega arith)), groups_unending bs k i (omega arith) (λ j m. g (suc j) (omega arith)))
+position_groups [] = refl
+position_groups (b ∷ bs) = split (ltb b 0x80) refl (position_groups bs)
+  where
+    split : (d : Bool) → ltb b 0x80 ≡ d → groups_read (groups_of bs) ≡ option_map suc (position is_last bs) → groups_read (groups_of (b ∷ bs)) ≡ option_map suc (position is_last (b ∷ bs))
+    split true e p = let some_byte : 0 < suc (length bs) = omega arith in rw e (rw (lt-ltb 0 (suc (length bs)) some_byte))
+    split false e p = rw e (longer_read b (groups_of bs) ∙ ap (option_map suc) p ∙ further (position_or_len is_last bs) (length bs))
 
 -- ---- a delta is the front of what it is read from
 
-abbrev Front : List ℕ → Option (List ℕ) → Type 0
+abbrev Front : List ℕ → rules.Option (List ℕ) → Type 0
 Front bytes none = Unit {0}
 Front bytes (some gs) = gs ≡ take (length gs) bytes
 
@@ -59,7 +57,7 @@ unfolding groups_of
 groups_front [] = tt
 groups_front (b ∷ bs) = in_both (Front (b ∷ bs)) (ltb b 0x80) (λ e. refl) (λ e. longer (groups_of bs) (groups_front bs))
   where
-    longer : (o : Option (List ℕ)) → Front bs o → Front (b ∷ bs) (before b o)
+    longer : (o : rules.Option (List ℕ)) → Front bs o → Front (b ∷ bs) (before b o)
     longer none f = tt
     longer (some gs) f = ap (λ (t : List ℕ). b ∷ t) f
 
@@ -70,11 +68,11 @@ pub record Whole (bytes : List ℕ) (n : ℕ) : Type 0 where
   pub nine : n ≤ 9
   pub inside : n ≤ length bytes
 
-pub whole_read : (bytes : List ℕ) (n : ℕ) → groups.Whole n ≡ groups_read (delta_in bytes) → Whole bytes n
+pub whole_read : (bytes : List ℕ) (n : ℕ) → groups_read (delta_in bytes) ≡ Some n → Whole bytes n
 whole_read bytes n e = told (delta_in bytes) refl e (groups_front (take 9 bytes)) (groups_short (take 9 bytes))
   where
-    told : (o : Option (List ℕ)) → delta_in bytes ≡ o → groups.Whole n ≡ groups_read o → Front (take 9 bytes) o → Short (length (take 9 bytes)) o → Whole bytes n
-    told none d e f s = absurd (let z : ◌≡◌ {A = ℕ} 0 1 = cc in omega arith)
+    told : (o : rules.Option (List ℕ)) → delta_in bytes ≡ o → groups_read o ≡ Some n → Front (take 9 bytes) o → Short (length (take 9 bytes)) o → Whole bytes n
+    told none d e f s = cc
     told (some gs) d e f s =
         let m : n ≡ length gs = cc in
         let l : length gs ≤ 9 = omega (arith, s.1, length-take 9 bytes) in
@@ -85,10 +83,10 @@ whole_read bytes n e = told (delta_in bytes) refl e (groups_front (take 9 bytes)
           inside = omega (arith, s.1, length-take 9 bytes);
         }
 
-pub unending_read : (bytes : List ℕ) → groups.Unending ≡ groups_read (delta_in bytes) → delta_in bytes ≡ none
+pub unending_read : (bytes : List ℕ) → groups_read (delta_in bytes) ≡ None → delta_in bytes ≡ none
 unending_read bytes e = told (delta_in bytes) e
   where
-    told : (o : Option (List ℕ)) → groups.Unending ≡ groups_read o → o ≡ none
+    told : (o : rules.Option (List ℕ)) → groups_read o ≡ None → o ≡ none
     told none e = refl
     told (some gs) e = cc
 
@@ -101,28 +99,24 @@ module _ (last : ℕ) where
   groups_below [] = omega arith
   groups_below (b ∷ bs) = rw (pow-succ' 0x80 (length bs)) (omega (arith, groups_below bs))
 
-  -- one group more still fits
-  pub groups_room : (bytes : List ℕ) (i : ℕ) → 0 < i → i ≤ length bytes → (last + 1) * 0x80 ^ length bytes ≤ 2 ^ 63
-      → 0x80 * groups_then (drop i bytes) last + 0x80 ≤ 2 ^ 63
-  groups_room bytes i z h room =
-      let k = length (drop i bytes) in
-      let less : suc k ≤ length bytes = simp length-drop (omega arith) in
-      let wider : (last + 1) * 0x80 ^ suc k ≤ (last + 1) * 0x80 ^ length bytes = mul-le-mul_left (last + 1) (pow-le-pow_right {n = 0x80} (omega arith) less) in
-      let more : (last + 1) * 0x80 ^ suc k ≡ 0x80 * ((last + 1) * 0x80 ^ k) = rw (pow-succ' 0x80 k) (omega arith) in
-      omega (arith, groups_below (drop i bytes))
-
   -- of k groups at most
   pub nine_room : (bytes : List ℕ) (k : ℕ) → length bytes ≤ k → (last + 1) * 0x80 ^ k ≤ 2 ^ 63 → (last + 1) * 0x80 ^ length bytes ≤ 2 ^ 63
   nine_room bytes k h room = omega (arith, mul-le-mul_left (last + 1) (pow-le-pow_right {n = 0x80} (omega arith) h))
 
-  pub groups_end : (bytes : List ℕ) → groups_then (drop (length bytes) bytes) last ≡ last
-  unfolding groups_then
-  groups_end bytes = rw (drop-length bytes)
+small-pushed : (value b : ℕ) → 0x80 * value + 0x80 ≤ 2 ^ 63 → (value * 0x80 % 2 ^ 64 + b % 0x80) % 2 ^ 64 ≡ b % 0x80 + 0x80 * value
+small-pushed value b room = omega arith
 
-  pub groups_next : (bytes : List ℕ) (i j : ℕ) → i ≡ suc j → i ≤ length bytes
-      → 0x80 * groups_then (drop i bytes) last + get_or bytes j 0 % 0x80 ≡ groups_then (drop j bytes) last
-  unfolding groups_then
-  groups_next bytes i j e h = rw (drop-cons bytes j 0 (omega arith), e) (omega arith)
+-- the groups from the last on, in 64 bits that hold them all
+abbrev pub pushed : (value b : ℕ) → ℕ
+pushed value b = (value * 0x80 % 2 ^ 64 + b % 0x80) % 2 ^ 64
+
+pub folded_groups : (last : ℕ) (bytes : List ℕ) → (last + 1) * 0x80 ^ length bytes ≤ 2 ^ 63 → fold pushed last (reverse bytes) ≡ groups_then bytes last
+unfolding groups_then
+folded_groups last [] room = refl
+folded_groups last (b ∷ bs) room =
+    let more : (last + 1) * 0x80 ^ length (b ∷ bs) ≡ 0x80 * ((last + 1) * 0x80 ^ length bs) = rw (pow-succ' 0x80 (length bs)) (omega arith) in
+    let before : fold pushed last (reverse bs) ≡ groups_then bs last = folded_groups last bs (omega arith) in
+    rw (reverse_onto bs b []) (fold_push pushed last (reverse bs) b ∙ rw before (small-pushed (groups_then bs last) b (omega (arith, groups_below last bs))))
 
 pub handle_groups : (bytes : List ℕ) → groups_then bytes 0 ≡ handle_delta bytes
 unfolding groups_then handle_delta

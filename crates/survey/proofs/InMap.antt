@@ -1,4 +1,5 @@
 -- Laws of a chunk that is looked at field by field: where the first fault is, the walk ends there.
+use Rattle.std.specs.Prelude.{Ok, None}
 use Prim.Native.Nat.{ℕ, ◌+◌, ◌<◌, ◌≤◌}
 use mathlib.Core.Bool.{true, false}
 use mathlib.Core.List.{List}
@@ -6,7 +7,6 @@ use mathlib.Core.Path.{◌≡◌}
 use borrow.Author.Tests.{le-leb, lt-leb, eq-eqb, ne_eqb}
 use Rattle.streaming.specs.Choose.{when◌then◌else◌}
 use Rattle.streaming.specs.declared.FlatHeader.{FlatHeader}
-use Rattle.streaming.specs.declared.Asked.TheVariants as asked
 use Rattle.streaming.specs.declared.Fault.TheVariants as fault
 use Rattle.account.specs.Account.{broken}
 use Rattle.rules.specs.Header.{map_end}
@@ -41,7 +41,7 @@ module _ (h : FlatHeader) (src : List ℕ) (chunk : ℕ) (rest : Listing) where
         with_entries n = rw (checked, ne_eqb size 2 n)
 
         module _ (t : size ≡ 2) where
-          pub ends-map : chunk + 4 ≡ map_end h → goes ≡ stop asked.Nothing
+          pub ends-map : chunk + 4 ≡ map_end h → goes ≡ stop (Ok None)
           unfolding checked_chunk_then require when◌then◌else◌
           ends-map e = rw (checked, eq-eqb size 2 t, eq-eqb (chunk + 4) (map_end h) e)
 

@@ -2,6 +2,7 @@ pub mod Groups
 pub mod Moves
 pub mod Places
 pub mod Fields
+pub mod Inside
 pub mod InMap
 pub mod AtLocation
 pub mod Onward

@@ -1,4 +1,5 @@
 -- The file to open first: what the answer of `survey` is by the rules' account, how large its count can be, and computed cases.
+use Rattle.std.specs.Prelude.{Some, None, Ok, Err}
 use Prim.Native.Nat.{ℕ, suc, ◌*◌, ◌≤◌}
 use mathlib.Core.List.{List, [], ◌∷◌, ◌++◌}
 use mathlib.Core.Path.{◌≡◌, refl, sym, ap, ◌∙◌}
@@ -12,8 +13,7 @@ use Rattle.streaming.specs.declared.Part.TheVariants.{HeaderVars, Classes}
 use Rattle.streaming.specs.declared.Fault.TheVariants as fault
 use Rattle.streaming.specs.declared.StreamError.{StreamError}
 use Rattle.streaming.specs.declared.StreamError.TheVariants as error
-use Rattle.streaming.specs.declared.Ended.{Ended}
-use Rattle.streaming.specs.declared.Ended.TheVariants as ended
+use Rattle.streaming.specs.Answers.{Ended}
 use Rattle.rules.specs.Header.{map_size}
 use Rattle.rules.specs.Section.{section_record}
 use Rattle.rules.specs.Source.{Of}
@@ -23,7 +23,6 @@ use Rattle.rules.proofs.Main.{agree, half_the_map}
 use Rattle.rules.proofs.Facts.{every_fact}
 use Rattle.rules.proofs.Cases.{whole, whole_header, stalling, stalling_header}
 use Rattle.survey.specs.Survey.{sections_of, objects_of, listed, length_refusal, survey_of}
-use Rattle.survey.specs.declared.SectionFound.TheVariants as found
 use Rattle.survey.specs.declared.Walked.{Walked}
 
 objects_counted : (rs : List Record) → length (objects_of rs) ≡ objects_in rs
@@ -52,20 +51,20 @@ module _ (h : FlatHeader) (src : List ℕ) (of : Of h src) where
 
 -- the answer with both sections of the whole case
 abbrev both : (count : ℕ) → Ended → Walked
-both n e = record { vars = found.Record (section_record HeaderVars 70 0); classes = found.Record (section_record Classes 108 0); count = n; ending = e }
+both n e = record { vars = Some (section_record HeaderVars 70 0); classes = Some (section_record Classes 108 0); count = n; ending = e }
 
 abbrev nothing : StreamError → Walked
-nothing e = record { vars = found.None; classes = found.None; count = 0; ending = ended.Refused e }
+nothing e = record { vars = None; classes = None; count = 0; ending = Err e }
 
 pub record Computed : Type 0 where
   -- document 01's whole case
-  pub whole_case_lem : survey_of whole_header whole ≡ both 1 ended.Whole
+  pub whole_case_lem : survey_of whole_header whole ≡ both 1 (Ok tt)
   -- the last byte of the classes, and the first chunk's checksum: what came before stands
   pub classes_end : survey_of whole_header (set whole 145 0)
-      ≡ record { vars = found.Record (section_record HeaderVars 70 0); classes = found.None; count = 0; ending = ended.Refused (error.Fault (fault.SectionSentinel 1)) }
-  pub map_crc : survey_of whole_header (set whole 158 0xBD) ≡ both 0 (ended.Refused (error.Fault (fault.MapCrc 153 0xBCBD 0xBDBD)))
+      ≡ record { vars = Some (section_record HeaderVars 70 0); classes = None; count = 0; ending = Err (error.Fault (fault.SectionSentinel 1)) }
+  pub map_crc : survey_of whole_header (set whole 158 0xBD) ≡ both 0 (Err (error.Fault (fault.MapCrc 153 0xBCBD 0xBDBD)))
   -- the source ends before a second size word: 6 at its length
-  pub stalled : survey_of (stalling_header 159) (stalling (0x01 ∷ 0x80 ∷ [])) ≡ both 0 (ended.Refused (error.Truncated 159 2))
+  pub stalled : survey_of (stalling_header 159) (stalling (0x01 ∷ 0x80 ∷ [])) ≡ both 0 (Err (error.Truncated 159 2))
   -- a source that is not as long as the header says: 5 where it is longer, 6 where it is shorter
   pub too_long : survey_of whole_header (whole ++ (0 ∷ [])) ≡ nothing (error.InvalidFeed 164 165)
   pub too_short : survey_of whole_header (0 ∷ []) ≡ nothing (error.Truncated 1 163)

@@ -1,4 +1,5 @@
 -- Laws of what is left of a walk: at a chunk, at an entry of it, and how an object is counted.
+use Rattle.std.specs.Prelude.{Ok, Err}
 use Prim.Native.Nat.{ℕ, zero, suc, ◌+◌, ◌-◌, ◌^◌, ◌≤◌, ◌<◌}
 use mathlib.Core.List.{List}
 use mathlib.Core.Option.{Option, none, some}
@@ -9,8 +10,7 @@ use borrow.Author.Tests.{lt-leb}
 use Rattle.streaming.specs.Record.{object}
 use Rattle.streaming.specs.declared.FlatHeader.{FlatHeader}
 use Rattle.streaming.specs.declared.ObjectRecord.{ObjectRecord}
-use Rattle.streaming.specs.declared.Asked.{Asked}
-use Rattle.streaming.specs.declared.Ended.{Ended}
+use Rattle.streaming.specs.Answers.{Asked, Ended}
 use Rattle.streaming.specs.declared.Fault.TheVariants as fault
 use Rattle.streaming.proofs.Choose.{in_both}
 use Rattle.account.specs.Statement.{part, ended_by}
@@ -24,26 +24,15 @@ use Rattle.rules.proofs.Entry.{Fits, entry_fits, Near, moved-near, entries_cons}
 use Rattle.rules.proofs.Enough.{entries_settle, plain_settle}
 use Rattle.survey.specs.Survey.{objects_of}
 use Rattle.survey.specs.Counting.{counted, more, chunks_on, entries_on}
-use Rattle.survey.specs.Goes.{object_goes, Inside}
-use Rattle.survey.specs.declared.objects.ObjectRead.{ObjectRead}
-use Rattle.survey.specs.declared.objects.ObjectRead.TheVariants as object-read
+use Rattle.survey.specs.Goes.{Inside}
+use Rattle.survey.specs.declared.entries.Leads.{Leads}
 use Rattle.survey.specs.Entries.{entry_read}
-use Rattle.survey.specs.declared.entries.EntryRead.TheVariants as entry
 use Rattle.survey.specs.declared.walk.Cursor.{Cursor}
 use Rattle.survey.specs.declared.walk.Counted.{Counted}
 
-counted-object : (r : ObjectRecord) (l : Listing) → counted (first (object r) l) ≡ more 1 (counted l)
+pub counted-object : (r : ObjectRecord) (l : Listing) → counted (first (object r) l) ≡ more 1 (counted l)
 unfolding counted objects_of
 counted-object r l = ap (λ (n : ℕ). record { count = n; ending = ended_by l.ending }) (omega arith)
-
-pub object-counted : (o : ObjectRead) (r : ObjectRecord) (l : Listing) → o ≡ object-read.Holds r → counted (object_goes o l) ≡ more 1 (counted l)
-object-counted o r l e = rw e (counted-object r l)
-
-pub more_none : (c : Counted) → more 0 c ≡ c
-more_none c = ap (λ (n : ℕ). record { count = n; ending = c.ending }) (omega arith)
-
-pub more_again : (n : ℕ) (c : Counted) → more n (more 1 c) ≡ more (n + 1) c
-more_again n c = ap (λ (n : ℕ). record { count = n; ending = c.ending }) (omega arith)
 
 -- where the walk ends, the objects so far are all
 pub stopped : (n : ℕ) (q : Asked) (e : Ended) (left total : Counted) → e ≡ ended_by q → left ≡ counted (stop q) → more n left ≡ total
@@ -76,11 +65,11 @@ module _ (h : FlatHeader) (src : List ℕ) where
 -- ---- entries
 
 -- what an answer of `entry_at` tells of the rules' entry
-pub leads-told : (e : Entry) (bytes handle location : ℕ) → entry.Leads bytes handle location ≡ entry_read e → e ≡ leads bytes handle location
-leads-told (leads b m l) bytes handle location e = cc
-leads-told (refused b) bytes handle location e = cc
+pub leads-told : (e : Entry) (l : Leads) → Ok l ≡ entry_read e → e ≡ leads l.bytes l.handle l.location
+leads-told (leads b m k) l e = let same : l ≡ record { bytes = b; handle = m; location = k } = cc in rw same
+leads-told (refused b) l e = cc
 
-pub refused-told : (e : Entry) (bytes : ℕ) → entry.Refused bytes ≡ entry_read e → e ≡ refused bytes
+pub refused-told : (e : Entry) (bytes : ℕ) → Err bytes ≡ entry_read e → e ≡ refused bytes
 refused-told (leads b m l) bytes e = cc
 refused-told (refused b) bytes e = cc
 

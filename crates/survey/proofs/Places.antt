@@ -1,16 +1,14 @@
--- Laws of parts of a source that is in hand whole: what lies behind its end, and numbers read from it byte by byte.
-use Prim.Native.Nat.{ℕ, suc, ◌+◌, ◌-◌, min, ◌≤◌, ◌<◌}
+-- Laws of parts of a source that is in hand whole: what lies behind its end, and the front of a front.
+use Prim.Native.Nat.{ℕ, ◌-◌, min, ◌≤◌, ◌<◌}
 use mathlib.Core.Bool.{Bool, true, false}
-use mathlib.Core.List.{List, [], ◌∷◌}
+use mathlib.Core.List.{List, []}
 use mathlib.Core.Path.{◌≡◌, refl, sym, ◌∙◌}
 use native.Mathlib.Omega.{arith}
-use native.Mathlib.Numerals.{add-one}
-use lib.ListN.{length, take, get_or, drop, length-take, length-drop, drop_of_length-le}
+use lib.ListN.{length, take, drop, length-take, length-drop, drop_of_length-le}
 use lib.Seq.{take_all, take-nil, take-take}
 use lib.Dec.{leb}
 use borrow.Author.Tests.{leb-true, leb-false}
 use Rattle.account.specs.Statement.{part}
-use Rattle.account.proofs.Parts.{part_cons}
 
 module _ (src : List ℕ) (at end : ℕ) where
   -- nothing stands behind the source's end, nor before a part's start
@@ -32,11 +30,6 @@ module _ (src : List ℕ) (at end : ℕ) where
           let n : length (drop at src) ≤ stop - at = simp length-drop (omega arith) in
           let m : length (drop at src) ≤ end - at = simp length-drop (omega arith) in
           take_all (end - at) (drop at src) m ∙ sym (take_all (stop - at) (drop at src) n)
-
--- ---- two bytes at a place
-
-pub part_two : (src : List ℕ) (at : ℕ) → at + 2 ≤ length src → part src at 2 ≡ get_or src at 0 ∷ get_or src (at + 1) 0 ∷ []
-part_two src at h = part_cons src at 1 (omega arith) ∙ rw (part_cons src (suc at) 0 (omega arith), add-one at)
 
 -- ---- the front of a front
 

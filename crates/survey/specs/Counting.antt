@@ -1,5 +1,6 @@
 -- What the walk of the map comes to, and what is left of it at an entry of a chunk.
-use Rattle.std.specs.Prelude.{ℕ, ◌+◌, ◌-◌, ◌^◌, ◌≤◌, ◌<◌, List, length}
+use Rattle.std.specs.Prelude.{ℕ, ◌+◌, ◌-◌, ◌^◌, ◌≤◌, ◌<◌, List, length, Result, Ok, Err}
+use Rattle.streaming.specs.Answers.{Asked}
 use Rattle.streaming.specs.declared.FlatHeader.{FlatHeader}
 use Rattle.account.specs.Statement.{part, ended_by}
 use Rattle.rules.specs.Header.{map_end}
@@ -8,8 +9,6 @@ use Rattle.rules.specs.PlainList.{Listing, stop, entries_then, chunks_from}
 use Rattle.survey.specs.Survey.{objects_of}
 use Rattle.survey.specs.declared.walk.Cursor.{Cursor}
 use Rattle.survey.specs.declared.walk.Counted.{Counted}
-use Rattle.survey.specs.declared.walk.Visit.{Visit}
-use Rattle.survey.specs.declared.walk.Visit.TheVariants as visit
 
 unfoldable pub counted : Listing → Counted
 counted l = record { count = length (objects_of l.records); ending = ended_by l.ending }
@@ -28,11 +27,11 @@ module _ (h : FlatHeader) (src : List ℕ) where
   entries_on end c rest = entries_then h src (entries_from (end - c.at) c.handle c.location (part src c.at (end - c.at))) c.at rest
 
   -- an object more, and the walk goes on; or it ends
-  abbrev pub visit_goes : (end : ℕ) → Visit → Listing → Counted
-  visit_goes end (visit.Goes next) rest = more 1 (counted (entries_on end next rest))
-  visit_goes end (visit.Ends q) rest = counted (stop q)
+  abbrev pub visit_goes : (end : ℕ) → Result Cursor Asked → Listing → Counted
+  visit_goes end (Ok next) rest = more 1 (counted (entries_on end next rest))
+  visit_goes end (Err q) rest = counted (stop q)
 
 -- the next entry stands behind this one, in the chunk
-abbrev pub GoesAhead : Cursor → (end : ℕ) → Visit → Type 0
-GoesAhead c end (visit.Goes next) = (c.at < next.at) × (next.at ≤ end) × (next.location < 2 ^ 63)
-GoesAhead c end (visit.Ends q) = Unit {0}
+abbrev pub GoesAhead : Cursor → (end : ℕ) → Result Cursor Asked → Type 0
+GoesAhead c end (Ok next) = (c.at < next.at) × (next.at ≤ end) × (next.location < 2 ^ 63)
+GoesAhead c end (Err q) = Unit {0}

@@ -3,40 +3,35 @@
 
 ghost use Rattle.std.proofs.Math.Option.{none};
 ghost use Rattle.std.specs.Prelude.{◌≡◌, length};
-ghost use Rattle.crc.specs.Rows.{Table};
 ghost use Rattle.streaming.specs.Record.{section};
 ghost use Rattle.streaming.specs.declared.Part.TheVariants as part;
 ghost use Rattle.rules.specs.Header.{map_start, map_size, start_refusal};
 ghost use Rattle.rules.specs.PlainList.{first, part_then, chunks_from, plain_list};
-ghost use Rattle.rules.specs.Source.{Of};
 ghost use Rattle.survey.specs.Survey.{refused_walk, length_refusal, unless, listed, survey_of};
 
 use header::{locator, start_answer};
-use sections::{SectionRead, section_at};
-use streaming::{Ended, Fault, FlatHeader, Part, SectionRecord, Start, StreamError};
-use walk::walk_map;
+use sections::section_at;
+use source::Source;
+use streaming::{FlatHeader, Part, Request, SectionRecord, StreamError};
 
 mod chunks;
 pub mod entries;
 mod objects;
 mod sections;
+mod source;
 pub mod sums;
 mod walk;
 
-// The section's record, if the walk came so far.
-#[derive(Clone, Copy)]
-pub enum SectionFound {
-    None,
-    Record(SectionRecord),
-}
+// What is asked ever after, where a walk ends: nothing more at its last chunk, or the demand that it stalls at, or its fault again.
+pub type Ending = Result<Option<Request>, StreamError>;
 
-// What the walk over a whole source comes to: its sections, the number of its objects, and its ending.
+// What the walk over a whole source comes to: its sections, as far as it came, the number of its objects, and its ending.
 #[derive(Clone, Copy)]
 pub struct Walked {
-    pub vars: SectionFound,
-    pub classes: SectionFound,
+    pub vars: Option<SectionRecord>,
+    pub classes: Option<SectionRecord>,
     pub count: usize,
-    pub ending: Ended,
+    pub ending: Result<(), StreamError>,
 }
 
 // Nothing is walked.
@@ -44,55 +39,55 @@ fn refused(e: StreamError) -> Walked
     ensures { result ≡ refused_walk e }
 {
     Walked {
-        vars: SectionFound::None,
-        classes: SectionFound::None,
+        vars: None,
+        classes: None,
         count: 0,
-        ending: Ended::Refused(e),
+        ending: Err(e),
     }
 }
 
 // Behind the header variables: the classes, then the map.
-fn behind_vars(h: FlatHeader, rows: &[[u16; 256]; 8], src: &[u8], vars: SectionRecord) -> Walked
-    requires { Of h src.now × Table rows.now }
-    ensures { result ≡ listed (first (section vars) (part_then h src.now part.Classes (chunks_from h src.now (map_size h) (map_start h)))) }
+fn behind_vars(source: &Source, vars: SectionRecord) -> Walked
+    ensures { result ≡ listed (first (section vars) (part_then source.now.header source.now.bytes.now part.Classes (chunks_from source.now.header source.now.bytes.now (map_size source.now.header) (map_start source.now.header)))) }
 {
-    let l = locator(h, 1);
-    match section_at(rows, src, Part::Classes, l.offset as usize, l.size as usize) {
-        SectionRead::Fails(f) => Walked {
-            vars: SectionFound::Record(vars),
-            classes: SectionFound::None,
+    let l = locator(source.header, 1);
+    match section_at(
+        source.bytes,
+        Part::Classes,
+        l.offset as usize,
+        l.size as usize,
+    ) {
+        Err(f) => Walked {
+            vars: Some(vars),
+            classes: None,
             count: 0,
-            ending: Ended::Refused(StreamError::Fault(f)),
+            ending: Err(StreamError::Fault(f)),
         },
-        SectionRead::Holds(classes) => {
-            let m = walk_map(h, rows, src);
-            let ending = m.ending;
+        Ok(classes) => {
+            let map = source.walk_map();
             Walked {
-                vars: SectionFound::Record(vars),
-                classes: SectionFound::Record(classes),
-                count: m.count,
-                ending: ending,
+                vars: Some(vars),
+                classes: Some(classes),
+                count: map.count,
+                ending: map.ending,
             }
         }
     }
 }
 
-// A header that Start takes, and a whole source of it. The checksum's table is made once.
-fn walk_all(h: FlatHeader, src: &[u8]) -> Walked
-    requires { Of h src.now }
-    ensures { result ≡ listed (plain_list h src.now) }
+// The header variables come first.
+fn walk_all(source: &Source) -> Walked
+    ensures { result ≡ listed (plain_list source.now.header source.now.bytes.now) }
 {
-    let rows = crc::table();
-    let l = locator(h, 0);
+    let l = locator(source.header, 0);
     match section_at(
-        &rows,
-        src,
+        source.bytes,
         Part::HeaderVars,
         l.offset as usize,
         l.size as usize,
     ) {
-        SectionRead::Fails(f) => refused(StreamError::Fault(f)),
-        SectionRead::Holds(vars) => behind_vars(h, &rows, src, vars),
+        Err(f) => refused(StreamError::Fault(f)),
+        Ok(vars) => behind_vars(source, vars),
     }
 }
 
@@ -114,7 +109,10 @@ fn whole(h: FlatHeader, src: &[u8]) -> Walked
             needed: h.length - n,
         });
     }
-    walk_all(h, src)
+    walk_all(&Source {
+        header: h,
+        bytes: src,
+    })
 }
 
 // The walk over a whole source: the start refusals first, then the source's length, then the rules' own list and ending.
@@ -122,7 +120,7 @@ pub fn survey(h: FlatHeader, src: &[u8]) -> Walked
     ensures { result ≡ survey_of h src.now }
 {
     match start_answer(h) {
-        Start::Refused(e) => refused(e),
-        Start::Begun => whole(h, src),
+        Err(e) => refused(e),
+        Ok(()) => whole(h, src),
     }
 }

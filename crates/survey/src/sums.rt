@@ -1,6 +1,5 @@
 // Numbers and checksums of a source in hand, by their place.
 ghost use Rattle.std.specs.Prelude.{◌≡◌, ◌+◌, ◌≤◌, length};
-ghost use Rattle.crc.specs.Rows.{Table};
 ghost use Rattle.octets.specs.Octets.{little_endian, big_endian};
 ghost use Rattle.account.specs.Statement.{part};
 ghost use Rattle.rules.specs.Bytes.{checksum};
@@ -21,11 +20,11 @@ pub fn be16_at(src: &[u8], at: usize) -> u16
     octets::be16(src[at], src[at + 1])
 }
 
-// The checksum of n bytes, with the table that is made once for the whole walk.
-pub fn sum_at(rows: &[[u16; 256]; 8], src: &[u8], at: usize, n: usize) -> u16
-    requires { Table rows.now × (at + n ≤ length src.now) }
+// The checksum of n bytes.
+pub fn sum_at(src: &[u8], at: usize, n: usize) -> u16
+    requires { at + n ≤ length src.now }
     ensures { result ≡ checksum (part src.now at n) }
 {
     let end = at + n;
-    crc::by_eight(rows, 0xc0c1, &src[at..end])
+    crc::crc8(0xc0c1, &src[at..end])
 }

@@ -1,4 +1,5 @@
 -- A piece counts as accepted exactly where the statement takes its call: for every state and every call.
+use Rattle.std.specs.Prelude.{Ok, Err, Some, None}
 use Prim.Native.Nat.{ℕ}
 use mathlib.Core.Bool.{Bool, true, false, ◌&&◌, false≢true}
 use mathlib.Core.List.{List, [], ◌∷◌, ◌++◌}
@@ -9,15 +10,10 @@ use Rattle.streaming.specs.Choose.{when◌then◌else◌}
 use Rattle.streaming.specs.Record.{committed_in}
 use Rattle.streaming.specs.declared.Request.{Request}
 use Rattle.streaming.specs.declared.StreamError.{StreamError}
-use Rattle.streaming.specs.declared.Asked.{Asked}
-use Rattle.streaming.specs.declared.Asked.TheVariants as asked
-use Rattle.streaming.specs.declared.Answer.{Answer}
-use Rattle.streaming.specs.declared.Answer.TheVariants as answer
+use Rattle.streaming.specs.Answers.{Asked, Answer, Failure}
 use Rattle.streaming.specs.declared.Step.{Step}
 use Rattle.streaming.specs.declared.Step.TheVariants as step
 use Rattle.streaming.specs.declared.Stage.{Stage}
-use Rattle.streaming.specs.declared.Failure.{Failure}
-use Rattle.streaming.specs.declared.Failure.TheVariants as failure
 use Rattle.streaming.specs.declared.FlatWalker.{FlatWalker}
 use Rattle.streaming.specs.declared.Fed.{Fed}
 use Rattle.account.specs.Statement.{Call, takes}
@@ -44,38 +40,38 @@ step-accepted step.Finished = refl
 
 -- a fault is accepted where none was held
 fault_accepted : (x : Failure) → is_sound x ≡ true → is_accepted (fault_takes x) ≡ true
-fault_accepted failure.None e = refl
-fault_accepted (failure.Held f) e = absurd (false≢true e)
+fault_accepted None e = refl
+fault_accepted (Some f) e = absurd (false≢true e)
 
 told-accepted : (x : Failure) → is_sound x ≡ true → (a : Answer) (t : FlatWalker) → StepOrFault a t → is_accepted (taken_as x a) ≡ true
-told-accepted x sound (answer.Step y) t told = step-accepted y
-told-accepted x sound (answer.Refused y) t told =
-    ap (λ (e : StreamError). is_accepted (taken_as x (answer.Refused e))) told.1 ∙ fault_accepted x sound
+told-accepted x sound (Ok y) t told = step-accepted y
+told-accepted x sound (Err y) t told =
+    ap (λ (e : StreamError). is_accepted (taken_as x (Err e))) told.1 ∙ fault_accepted x sound
 
 -- a stage with a demand is not the last, so an accepted piece is a step or a fault
-stage_tells : (g : Stage) (s : FlatWalker) (r : Request) (piece : List ℕ) → request_at g s ≡ asked.Demand r
+stage_tells : (g : Stage) (s : FlatWalker) (r : Request) (piece : List ℕ) → request_at g s ≡ Ok (Some r)
     → StepOrFault (feed_at g s piece).answer (feed_at g s piece).state
 stage_tells g s r piece q = (outcome_at g s piece (λ e. done (ap (λ (x : Stage). request_at x s) (sym e) ∙ q))).told
   where
-    done : asked.Nothing ≡ asked.Demand r → ⊥
+    done : ◌≡◌ {A = Asked} (Ok None) (Ok (Some r)) → ⊥
     done z = apart (cc)
 
 module _ (s : FlatWalker) (c : Call) where
   abbrev Agrees : Asked → Fed → Type 0
   Agrees q r = is_accepted (taken_as s.failure r.answer) ≡ takes q c
 
-  refused_agrees : (e : StreamError) → Refuses s e → is_accepted (taken_as s.failure (answer.Refused e)) ≡ false
+  refused_agrees : (e : StreamError) → Refuses s e → is_accepted (taken_as s.failure (Err e)) ≡ false
   refused_agrees e (held f k same) =
-      ap₂ (λ (x : Failure) (y : StreamError). is_accepted (taken_as x (answer.Refused y))) k same
-  refused_agrees e (unfit k n same) = ap (λ (y : StreamError). is_accepted (taken_as s.failure (answer.Refused y))) same
+      ap₂ (λ (x : Failure) (y : StreamError). is_accepted (taken_as x (Err y))) k same
+  refused_agrees e (unfit k n same) = ap (λ (y : StreamError). is_accepted (taken_as s.failure (Err y))) same
 
   pub accepted_taken : is_accepted (taken_as s.failure (feed_of s c.offset c.piece).answer) ≡ takes (request_of s) c
   unfolding feed_of when◌then◌else◌
   accepted_taken = by_asked (request_of s) refl
     where
-      by_tests : (r : Request) → request_of s ≡ asked.Demand r → (a : Bool) → eqb c.offset r.offset ≡ a
+      by_tests : (r : Request) → request_of s ≡ Ok (Some r) → (a : Bool) → eqb c.offset r.offset ≡ a
           → (b : Bool) → (ltb 0 (length c.piece) && leb (length c.piece) r.len) ≡ b
-          → Agrees (asked.Demand r) (offered (asked.Demand r) s c.offset c.piece)
+          → Agrees (Ok (Some r)) (offered (Ok (Some r)) s c.offset c.piece)
       by_tests r q true e true k =
           let d = demanded s r q in
           let fed = feed_at s.stage s c.piece in
@@ -84,9 +80,9 @@ module _ (s : FlatWalker) (c : Call) where
       by_tests r q false e b k = rw e
 
       by_asked : (q : Asked) → request_of s ≡ q → Agrees q (offered q s c.offset c.piece)
-      by_asked asked.Nothing e = refl
-      by_asked (asked.Refused x) e = refused_agrees x (refuses s x e)
-      by_asked (asked.Demand r) e =
+      by_asked (Ok None) e = refl
+      by_asked (Err x) e = refused_agrees x (refuses s x e)
+      by_asked (Ok (Some r)) e =
           by_tests r e (eqb c.offset r.offset) refl (ltb 0 (length c.piece) && leb (length c.piece) r.len) refl
 
 -- ---- and of a run
@@ -113,8 +109,8 @@ not_accepted as_framing e = absurd (false≢true (sym e))
 not_accepted as_payload e = absurd (false≢true (sym e))
 
 commits_none : (x : Failure) (a : Answer) → is_accepted (taken_as x a) ≡ false → committed_in a ≡ []
-commits_none x (answer.Step y) e = absurd (false≢true (sym e ∙ step-accepted y))
-commits_none x (answer.Refused y) e = refl
+commits_none x (Ok y) e = absurd (false≢true (sym e ∙ step-accepted y))
+commits_none x (Err y) e = refl
 
 -- it leaves the tally of every history as it was
 pub refused_adds_nothing : (s : FlatWalker) (c : Call) → takes (request_of s) c ≡ false → (hs : List Heard) → tally_of (hs ++ (heard_of s c ∷ [])) ≡ tally_of hs

@@ -6,8 +6,7 @@ use lib.ListN.{length, get_or}
 use lib.Dec.{ltb, eqb}
 use Rattle.streaming.specs.declared.FlatHeader.{FlatHeader}
 use Rattle.streaming.specs.declared.Fault.{Fault}
-use Rattle.streaming.specs.declared.Asked.{Asked}
-use Rattle.streaming.specs.declared.Answer.{Answer}
+use Rattle.streaming.specs.Answers.{Asked, Answer}
 use Rattle.streaming.proofs.Choose.{in_both}
 use Rattle.account.specs.Account.{Account, ask, over, framing, payload, passed, payload_byte}
 use Rattle.account.specs.Asking.{Turn, go, says_before, ask_byte, span, passing, one_by_one, spell}

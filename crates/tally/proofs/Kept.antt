@@ -1,7 +1,7 @@
 -- What one more call makes of the tally of a history is the tally of the history with that call behind it.
 use Prim.Native.Nat.{ℕ, ◌+◌}
 use mathlib.Core.List.{List, [], ◌∷◌, ◌++◌, append_assoc, append-nil}
-use mathlib.Core.Path.{◌≡◌, refl, sym, ap, ◌∙◌}
+use mathlib.Core.Path.{◌≡◌, refl, ap, ◌∙◌}
 use native.Mathlib.Omega.{arith}
 use lib.ListN.{length, length-append}
 use Rattle.streaming.specs.Record.{committed_in}
@@ -10,9 +10,8 @@ use Rattle.account.specs.Statement.{Call}
 use Rattle.account.specs.Runs.{run}
 use Rattle.flat.specs.Flat.{feed_of}
 use Rattle.stands.proofs.Fitness.{flat_walker}
-use Rattle.tally.specs.declared.Tally.{Tally}
 use Rattle.tally.specs.History.{Heard, bytes_of, framing_of, payload_of, taken_as, total, bytes_in, framing_in, payload_in, handles_of, handles_in, repeats}
-use Rattle.tally.specs.Tally.{capped, last_of, tally_of, known, counted, Continues}
+use Rattle.tally.specs.Tally.{capped, last_of, tally_of, known, counted}
 use Rattle.tally.specs.Run.{heard_of, heard_in}
 use Rattle.tally.proofs.Laws.{by_field}
 
@@ -60,9 +59,6 @@ continued hs h =
     (capped-sum (length old) (length new) _ (ap length (handles_behind hs h) ∙ length-append old new))
     (capped-sum (repeats old) (repeats (known (last_of old) ++ new)) _ (ap repeats (handles_behind hs h) ∙ repeats-behind old new))
     (ap last_of (handles_behind hs h) ∙ last-behind old new)
-
-pub continues : (t r : Tally) (h : Heard) → r ≡ counted t h → Continues t h r
-continues t r h e hs same = e ∙ ap (λ (x : Tally). counted x h) same ∙ sym (continued hs h)
 
 -- ---- a run
 

@@ -1,5 +1,6 @@
 -- The file to open first: what a tally says of a walk. Each theorem is about `tally_of` of a history, which by its contract `count` keeps, and `heard_in`,
 -- the history of calls to `feed`.
+use Rattle.std.specs.Prelude.{Ok, None}
 use Prim.Native.Nat.{ℕ, ◌+◌, ◌^◌, ◌≤◌, ◌<◌}
 use mathlib.Core.Bool.{false}
 use mathlib.Core.List.{List, [], ◌∷◌, ◌++◌}
@@ -8,7 +9,6 @@ use native.Mathlib.Omega.{arith}
 use lib.ListN.{length}
 use Rattle.streaming.specs.Record.{objects_in}
 use Rattle.streaming.specs.declared.FlatHeader.{FlatHeader}
-use Rattle.streaming.specs.declared.Asked.TheVariants as asked
 use Rattle.streaming.specs.declared.FlatWalker.{FlatWalker}
 use Rattle.account.specs.Statement.{Call, takes, Honest}
 use Rattle.account.specs.Runs.{run, bytes, committed}
@@ -79,7 +79,7 @@ module _ (h : FlatHeader) (src : List ℕ) (of : Of h src) (cs : List Call) (hon
   payload_so_far = P.payload_so_far_heard h src of cs honest
 
   -- A finished walk has no unit open: its payload is the sizes of its records.
-  pub payload_in_all : request_of (run flat_walker (begun h) cs) ≡ asked.Nothing
+  pub payload_in_all : request_of (run flat_walker (begun h) cs) ≡ Ok None
       → payload_in (heard_in (begun h) cs) ≡ sizes_of (committed flat_walker (begun h) cs)
   payload_in_all = P.payload_in_all_heard h src of cs honest
 

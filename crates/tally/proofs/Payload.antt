@@ -1,10 +1,10 @@
 -- The payload of a run: the sizes of what it committed, and what was taken of the unit still open or failed.
+use Rattle.std.specs.Prelude.{Ok, None}
 use Prim.Native.Nat.{ℕ, zero, suc, ◌+◌}
 use mathlib.Core.List.{List}
 use mathlib.Core.Path.{◌≡◌, refl, sym, ap, ◌∙◌, subst}
 use native.Mathlib.Omega.{arith}
 use Rattle.streaming.specs.declared.FlatHeader.{FlatHeader}
-use Rattle.streaming.specs.declared.Asked.TheVariants as asked
 use Rattle.account.specs.Account.{Account, ask, over, ask_of, passed, payload_taken}
 use Rattle.account.specs.Statement.{Call, Honest}
 use Rattle.account.specs.Runs.{run, bytes, committed, Past}
@@ -31,7 +31,7 @@ within_all zero a = omega arith
 within_all (suc n) (ask at left says rest) = omega (arith, within_all n rest)
 within_all (suc n) (over q) = refl
 
-none_left : (a : Account) → ask_of a ≡ asked.Nothing → payload_taken a ≡ 0
+none_left : (a : Account) → ask_of a ≡ Ok None → payload_taken a ≡ 0
 unfolding payload_taken
 none_left (ask at left says rest) e = apart (cc)
 none_left (over q) e = refl
@@ -48,7 +48,7 @@ module _ (h : FlatHeader) (src : List ℕ) (of : Of h src) (cs : List Call) (hon
       let sizes = ap sizes_of (committed-within Of rules (λ h src of. rules_tidy h src) flat_walker meets h src of cs honest) in
       omega (arith, paying.heard, paying.hand 0, payload_so_far h src n, sizes)
 
-  pub payload_in_all_heard : request_of (run flat_walker (begun h) cs) ≡ asked.Nothing
+  pub payload_in_all_heard : request_of (run flat_walker (begun h) cs) ≡ Ok None
       → payload_in (heard_in (begun h) cs) ≡ sizes_of (committed flat_walker (begun h) cs)
   payload_in_all_heard e =
       let n = bytes flat_walker (begun h) cs in

@@ -1,4 +1,5 @@
 -- The payload that is heard of a run is the payload of the account in the bytes taken, in all and behind the last commit.
+use Rattle.std.specs.Prelude.{Ok, Err, Some, None}
 use Prim.Native.Nat.{ℕ, zero, suc, ◌+◌, ◌≤◌, ◌<◌}
 use mathlib.Core.Bool.{Bool, true, false}
 use mathlib.Core.List.{List, [], ◌∷◌}
@@ -11,10 +12,7 @@ use Rattle.streaming.specs.Record.{committed_in}
 use Rattle.streaming.specs.declared.Step.TheVariants as step
 use Rattle.streaming.specs.declared.StreamError.{StreamError}
 use Rattle.streaming.specs.declared.StreamError.TheVariants as error
-use Rattle.streaming.specs.declared.Answer.{Answer}
-use Rattle.streaming.specs.declared.Answer.TheVariants as answer
-use Rattle.streaming.specs.declared.Failure.{Failure}
-use Rattle.streaming.specs.declared.Failure.TheVariants as failure
+use Rattle.streaming.specs.Answers.{Answer, Failure}
 use Rattle.streaming.specs.declared.FlatWalker.{FlatWalker}
 use Rattle.account.specs.Account.{Account, ask, over, demand, ask_of, passed, says_at, payload_byte}
 use Rattle.account.specs.Statement.{Call, takes, refusal, answer_of, after, part, HonestCall, Honest}
@@ -54,8 +52,8 @@ hand_more taken (suc n) (suc k) (over q) = rw suc-add
 
 module _ (held : Failure) where
   fault_pays : (x : Failure) (n : ℕ) → payload_bytes (fault_takes x) n ≡ 0
-  fault_pays failure.None n = refl
-  fault_pays (failure.Held f) n = refl
+  fault_pays None n = refl
+  fault_pays (Some f) n = refl
 
   pub refusal_pays : (e : StreamError) (n : ℕ) → payload_bytes (refusal_takes held e) n ≡ 0
   refusal_pays (error.LocatorCount count) n = refl
@@ -70,29 +68,29 @@ module _ (held : Failure) where
 
   -- a byte more of the same answer
   pays_more : (a : Answer) (n : ℕ) → payload_bytes (taken_as held a) (suc n) ≡ payload_byte a + payload_bytes (taken_as held a) n
-  pays_more (answer.Step step.Framing) n = refl
-  pays_more (answer.Step (step.Payload part)) n = omega arith
-  pays_more (answer.Step (step.Section r)) n = refl
-  pays_more (answer.Step (step.Object r)) n = refl
-  pays_more (answer.Step step.Finished) n = refl
-  pays_more (answer.Refused e) n = omega (arith, refusal_pays e n, refusal_pays e (suc n))
+  pays_more (Ok step.Framing) n = refl
+  pays_more (Ok (step.Payload part)) n = omega arith
+  pays_more (Ok (step.Section r)) n = refl
+  pays_more (Ok (step.Object r)) n = refl
+  pays_more (Ok step.Finished) n = refl
+  pays_more (Err e) n = omega (arith, refusal_pays e n, refusal_pays e (suc n))
 
   pays_none : (a : Answer) → payload_bytes (taken_as held a) 0 ≡ 0
-  pays_none (answer.Step step.Framing) = refl
-  pays_none (answer.Step (step.Payload part)) = refl
-  pays_none (answer.Step (step.Section r)) = refl
-  pays_none (answer.Step (step.Object r)) = refl
-  pays_none (answer.Step step.Finished) = refl
-  pays_none (answer.Refused e) = refusal_pays e 0
+  pays_none (Ok step.Framing) = refl
+  pays_none (Ok (step.Payload part)) = refl
+  pays_none (Ok (step.Section r)) = refl
+  pays_none (Ok (step.Object r)) = refl
+  pays_none (Ok step.Finished) = refl
+  pays_none (Err e) = refusal_pays e 0
 
 -- what a quiet byte leaves in hand
 quiet_keeps : (s : Answer) → Quiet s → (n : ℕ) → kept_behind (committed_in s) n ≡ n
-quiet_keeps (answer.Step step.Framing) q n = refl
-quiet_keeps (answer.Step (step.Payload part)) q n = refl
-quiet_keeps (answer.Step (step.Section r)) q n = absurd q
-quiet_keeps (answer.Step (step.Object r)) q n = absurd q
-quiet_keeps (answer.Step step.Finished) q n = absurd q
-quiet_keeps (answer.Refused e) q n = absurd q
+quiet_keeps (Ok step.Framing) q n = refl
+quiet_keeps (Ok (step.Payload part)) q n = refl
+quiet_keeps (Ok (step.Section r)) q n = absurd q
+quiet_keeps (Ok (step.Object r)) q n = absurd q
+quiet_keeps (Ok step.Finished) q n = absurd q
+quiet_keeps (Err e) q n = absurd q
 
 -- ---- one piece, of n bytes that the source has
 

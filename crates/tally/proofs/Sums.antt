@@ -1,6 +1,6 @@
 -- Sums over a history: framing and payload make up the bytes, and a call that takes nothing adds nothing.
 use Prim.Native.Nat.{ℕ, ◌+◌}
-use mathlib.Core.List.{List, [], ◌∷◌, ◌++◌, append-nil}
+use mathlib.Core.List.{List, [], ◌∷◌, ◌++◌, append-nil, append_assoc}
 use mathlib.Core.Path.{◌≡◌, refl, sym, ap, ap₂, ◌∙◌}
 use native.Mathlib.Omega.{arith}
 use Rattle.streaming.specs.Record.{Record, committed_in}
@@ -25,14 +25,10 @@ adds_up (h ∷ hs) = omega (arith, taken_adds_up (taken_as h.held h.answer) h.le
 
 -- ---- calls in turn
 
-append_one : (hs : List Heard) (h : Heard) (more : List Heard) → (hs ++ (h ∷ [])) ++ more ≡ hs ++ (h ∷ more)
-append_one [] h more = refl
-append_one (x ∷ hs) h more = ap (λ (l : List Heard). x ∷ l) (append_one hs h more)
-
 counted_on : (hs more : List Heard) → counted_in (tally_of hs) more ≡ tally_of (hs ++ more)
 counted_on hs [] = ap tally_of (sym (append-nil hs))
 counted_on hs (h ∷ more) =
-    ap (λ (t : Tally). counted_in t more) (sym (continued hs h)) ∙ counted_on (hs ++ (h ∷ [])) more ∙ ap tally_of (append_one hs h more)
+    ap (λ (t : Tally). counted_in t more) (sym (continued hs h)) ∙ counted_on (hs ++ (h ∷ [])) more ∙ ap tally_of (append_assoc hs (h ∷ []) more)
 
 pub counted_all : (hs : List Heard) → counted_in (tally_of []) hs ≡ tally_of hs
 counted_all hs = counted_on [] hs

@@ -1,15 +1,12 @@
 -- What was heard of a walk, call by call, and what there is to count in it: plain sums over the list.
-use Rattle.std.specs.Prelude.{ℕ, ◌+◌, Bool, true, false, List, [], ◌∷◌, ◌++◌, eqb}
+use Rattle.std.specs.Prelude.{ℕ, ◌+◌, Bool, true, false, List, [], ◌∷◌, ◌++◌, eqb, Ok, Err, Some, None}
 use Rattle.streaming.specs.Choose.{when◌then◌else◌}
 use Rattle.streaming.specs.Record.{Record, section, object, committed_in}
 use Rattle.streaming.specs.declared.Step.{Step}
 use Rattle.streaming.specs.declared.Step.TheVariants as step
 use Rattle.streaming.specs.declared.StreamError.{StreamError}
 use Rattle.streaming.specs.declared.StreamError.TheVariants as error
-use Rattle.streaming.specs.declared.Answer.{Answer}
-use Rattle.streaming.specs.declared.Answer.TheVariants as answer
-use Rattle.streaming.specs.declared.Failure.{Failure}
-use Rattle.streaming.specs.declared.Failure.TheVariants as failure
+use Rattle.streaming.specs.Answers.{Answer, Failure}
 use Rattle.rules.specs.Payload.{kept_behind}
 
 -- a call: the failure that was held before it, the answer, and the length of the piece that it brought
@@ -36,8 +33,8 @@ step_takes step.Finished = as_framing
 
 -- a fault that was not held before the call came with its piece; one that was held is only said again
 abbrev pub fault_takes : Failure → Taken
-fault_takes failure.None = as_framing
-fault_takes (failure.Held f) = not_taken
+fault_takes None = as_framing
+fault_takes (Some f) = not_taken
 
 abbrev pub refusal_takes : Failure → StreamError → Taken
 refusal_takes held (error.LocatorCount count) = not_taken
@@ -53,8 +50,8 @@ refusal_takes held error.BadState = not_taken
 -- A piece is accepted where it is answered by a step, or by a fault that was not held before: then the piece brought it. It is payload where the step
 -- says so, and framing else, the piece at fault too. Every other refusal takes nothing.
 abbrev pub taken_as : Failure → Answer → Taken
-taken_as held (answer.Step s) = step_takes s
-taken_as held (answer.Refused e) = refusal_takes held e
+taken_as held (Ok s) = step_takes s
+taken_as held (Err e) = refusal_takes held e
 
 abbrev pub is_accepted : Taken → Bool
 is_accepted not_taken = false

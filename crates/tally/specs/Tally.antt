@@ -1,8 +1,6 @@
 -- The tally of a history, and what one more call makes of a tally. That the second keeps to the first is proved (proofs/Kept.antt).
-use Rattle.std.specs.Prelude.{ℕ, ◌+◌, ◌-◌, ◌^◌, min, List, [], ◌∷◌, ◌++◌, ◌≡◌, length}
+use Rattle.std.specs.Prelude.{ℕ, ◌+◌, ◌-◌, ◌^◌, min, List, [], ◌∷◌, ◌++◌, ◌≡◌, length, Option, Some, None}
 use Rattle.streaming.specs.Record.{committed_in}
-use Rattle.tally.specs.declared.Last.{Last}
-use Rattle.tally.specs.declared.Last.TheVariants as last
 use Rattle.tally.specs.declared.Tally.{Tally}
 use Rattle.tally.specs.History.{Heard, Taken, taken_as, accepted_bytes, framing_bytes, payload_bytes, bytes_in, framing_in, payload_in, handles_of, handles_in, repeats}
 
@@ -13,9 +11,9 @@ capped n = min n (2 ^ 64 - 1)
 -- ---- of a history
 
 -- the last of some handles
-unfoldable pub last_of : List ℕ → Last
-last_of [] = last.None
-last_of (x ∷ []) = last.Handle x
+unfoldable pub last_of : List ℕ → Option ℕ
+last_of [] = None
+last_of (x ∷ []) = Some x
 last_of (x ∷ y ∷ more) = last_of (y ∷ more)
 
 unfoldable pub tally_of : List Heard → Tally
@@ -31,9 +29,9 @@ tally_of hs = record {
 -- ---- of one more call
 
 -- the object just before, as a list
-abbrev pub known : Last → List ℕ
-known last.None = []
-known (last.Handle x) = x ∷ []
+abbrev pub known : Option ℕ → List ℕ
+known None = []
+known (Some x) = x ∷ []
 
 -- a tally behind a piece of n bytes that was taken so, and committed objects of these handles: one or none
 abbrev pub behind : Tally → Taken → (n : ℕ) (handles : List ℕ) → Tally

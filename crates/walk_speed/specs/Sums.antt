@@ -1,12 +1,8 @@
 -- What the speed command times: turns of a walk over a source in hand, and the sizes of the objects that they commit.
-use Rattle.std.specs.Prelude.{ℕ, zero, suc, ◌+◌, ◌-◌, min, List, [], ◌∷◌, get_or, ltb, eqb}
-use Rattle.streaming.specs.Choose.{when◌then◌else◌}
+use Rattle.std.specs.Prelude.{ℕ, zero, suc, ◌+◌, ◌-◌, min, List, [], ◌∷◌, get_or, ltb, eqb, if◌then◌else◌, Ok, Err, Some, None}
 use Rattle.streaming.specs.declared.Step.{Step}
 use Rattle.streaming.specs.declared.Step.TheVariants as step
-use Rattle.streaming.specs.declared.Answer.{Answer}
-use Rattle.streaming.specs.declared.Answer.TheVariants as answer
-use Rattle.streaming.specs.declared.Asked.{Asked}
-use Rattle.streaming.specs.declared.Asked.TheVariants as asked
+use Rattle.streaming.specs.Answers.{Answer, Asked}
 use Rattle.streaming.specs.declared.Locator.{Locator}
 use Rattle.streaming.specs.declared.FlatHeader.{FlatHeader}
 use Rattle.streaming.specs.declared.FlatWalker.{FlatWalker}
@@ -28,14 +24,14 @@ size_in (step.Object r) = r.size
 size_in step.Finished = 0
 
 abbrev pub size_of : Answer → ℕ
-size_of (answer.Step s) = size_in s
-size_of (answer.Refused e) = 0
+size_of (Ok s) = size_in s
+size_of (Err e) = 0
 
 -- what is asked for is fed, at most so many bytes of it; where nothing is asked for, an empty piece
 abbrev pub fed_by : Asked → FlatWalker → (src : List ℕ) (cut : ℕ) → Fed
-fed_by (asked.Demand r) s src cut = feed_of s r.offset (part src r.offset (min r.len cut))
-fed_by asked.Nothing s src cut = feed_of s 0 []
-fed_by (asked.Refused e) s src cut = feed_of s 0 []
+fed_by (Ok (Some r)) s src cut = feed_of s r.offset (part src r.offset (min r.len cut))
+fed_by (Ok None) s src cut = feed_of s 0 []
+fed_by (Err e) s src cut = feed_of s 0 []
 
 unfoldable pub turn_of : FlatWalker → (src : List ℕ) (cut : ℕ) → Fed
 turn_of s src cut = fed_by (request_of s) s src cut
@@ -59,7 +55,7 @@ header_of length vars vars_size classes classes_size map map_size = record {
 
 -- the size of the last of so many records, if a list has them and there is one
 unfoldable pub last_size : List ObjectRecord → (count : ℕ) → ℕ
-last_size list count = when eqb count 0 then 0 else when ltb most_places count then 0 else (get_or list (count - 1) blank).size
+last_size list count = if eqb count 0 then 0 else if ltb most_places count then 0 else (get_or list (count - 1) blank).size
 
 -- of the list that the one-shot walk fills
 abbrev pub last_of : FlatHeader → (src : List ℕ) → ℕ

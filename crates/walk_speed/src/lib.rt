@@ -3,32 +3,28 @@
 
 ghost use Rattle.std.specs.Prelude.{◌≡◌, ◌<◌, ◌^◌, ◌≤◌, min, length};
 ghost use Rattle.account.specs.Statement.{part};
-ghost use Rattle.flat.specs.Flat.{start_of, feed_of};
+ghost use Rattle.flat.specs.Flat.{begun_of, feed_of};
 ghost use Rattle.survey.specs.Survey.{survey_of};
-ghost use Rattle.walk_speed.specs.Sums.{size_in, size_of, turn_of, sum_of, header_of, last_size, last_of};
+ghost use Rattle.walk_speed.specs.Sums.{size_in, size_of, turn_of, sum_of, locator_at, header_of, last_size, last_of};
 
-use octets::least;
-use streaming::{Answer, Asked, Fed, FlatHeader, FlatWalker, Locator, ObjectRecord, Request, Step};
+use streaming::{Fed, FlatHeader, FlatWalker, Locator, ObjectRecord, Request, Step, StreamError};
 
 // The size of the object that a step commits.
 fn size_in(step: Step) -> u64
     ensures { (result ≡ size_in step) × (result < 2 ^ 32) }
 {
     match step {
-        Step::Framing => 0,
-        Step::Payload(_) => 0,
-        Step::Section(_) => 0,
-        Step::Object(record) => record.size as u64,
-        Step::Finished => 0,
+        Step::Object(record) => u64::from(record.size),
+        Step::Framing | Step::Payload(_) | Step::Section(_) | Step::Finished => 0,
     }
 }
 
-fn size_of(answer: Answer) -> u64
+fn size_of(answer: Result<Step, StreamError>) -> u64
     ensures { (result ≡ size_of answer) × (result < 2 ^ 32) }
 {
     match answer {
-        Answer::Step(step) => size_in(step),
-        Answer::Refused(_) => 0,
+        Ok(step) => size_in(step),
+        Err(_) => 0,
     }
 }
 
@@ -37,19 +33,18 @@ fn fed_from(s: FlatWalker, demand: Request, source: &[u8], cut: u64) -> Fed
     ensures { result ≡ feed_of s demand.offset (part source.now demand.offset (min demand.len cut)) }
 {
     let offset = demand.offset;
-    let from = least(offset, source.len() as u64) as usize;
-    let n = least(least(demand.len, cut), (source.len() - from) as u64) as usize;
+    let from = offset.min(source.len() as u64) as usize;
+    let n = demand.len.min(cut).min((source.len() - from) as u64) as usize;
     flat::feed(s, offset, &source[from..from + n])
 }
 
+#[tactic(auto, unfolding(crate::specs::Sums::turn_of))]
 fn turn(s: FlatWalker, source: &[u8], cut: u64) -> Fed
     ensures { result ≡ turn_of s source.now cut }
 {
-    let asked = flat::request(s);
-    match asked {
-        Asked::Demand(demand) => fed_from(s, demand, source, cut),
-        Asked::Nothing => flat::feed(s, 0, &source[..0]),
-        Asked::Refused(_) => flat::feed(s, 0, &source[..0]),
+    match flat::request(s) {
+        Ok(Some(demand)) => fed_from(s, demand, source, cut),
+        Ok(None) | Err(_) => flat::feed(s, 0, &[]),
     }
 }
 
@@ -59,16 +54,22 @@ fn sum(begun: FlatWalker, source: &[u8], cut: u64, turns: u32) -> u64
 {
     let mut s = begun;
     let mut total = 0;
-    let mut left = turns;
-    while left > 0 {
+    for _ in 0..turns {
         let fed = turn(s, source, cut);
-        let answer = fed.answer;
-        let next = fed.state;
-        total += size_of(answer);
-        s = next;
-        left -= 1;
+        total += size_of(fed.answer);
+        s = fed.state;
     }
     total
+}
+
+fn locator(number: u8, offset: u32, size: u32) -> Locator
+    ensures { result ≡ locator_at number offset size }
+{
+    Locator {
+        number,
+        offset,
+        size,
+    }
 }
 
 // An R2000 drawing with three locators.
@@ -83,27 +84,15 @@ fn header(
 ) -> FlatHeader
     ensures { result ≡ header_of bytes vars vars_size classes classes_size map map_size }
 {
-    let none = Locator {
-        number: 0,
-        offset: 0,
-        size: 0,
-    };
-    let mut locators = [none; 6];
-    locators[0] = Locator {
-        number: 0,
-        offset: vars,
-        size: vars_size,
-    };
-    locators[1] = Locator {
-        number: 1,
-        offset: classes,
-        size: classes_size,
-    };
-    locators[2] = Locator {
-        number: 2,
-        offset: map,
-        size: map_size,
-    };
+    let none = locator(0, 0, 0);
+    let locators = [
+        locator(0, vars, vars_size),
+        locator(1, classes, classes_size),
+        locator(2, map, map_size),
+        none,
+        none,
+        none,
+    ];
     FlatHeader {
         magic: *b"AC1015",
         count: 3,
@@ -125,7 +114,7 @@ pub extern "C" fn walk_once(
     cut: u64,
     turns: u32,
 ) -> u64
-    ensures { result ≡ sum_of turns (start_of (header_of (length source.now) vars vars_size classes classes_size map map_size)).state source.now cut }
+    ensures { result ≡ sum_of turns (begun_of (header_of (length source.now) vars vars_size classes classes_size map map_size)) source.now cut }
 {
     let h = header(
         source.len() as u64,
@@ -136,9 +125,10 @@ pub extern "C" fn walk_once(
         map,
         map_size,
     );
-    let started = flat::start(h);
-    let begun = started.state;
-    sum(begun, source, cut, turns)
+    match flat::start(h) {
+        Ok(begun) => sum(begun, source, cut, turns),
+        Err(_) => 0,
+    }
 }
 
 // It is walked in one call that counts its objects.
@@ -166,25 +156,18 @@ pub extern "C" fn survey_once(
     survey::survey(h, source).count as u64
 }
 
-fn size(r: ObjectRecord) -> u64
-    ensures { result ≡ r.size }
-{
-    r.size as u64
-}
-
 // The size of the last of so many records, if there is one.
-fn last_size(list: [ObjectRecord; 4096], count: usize) -> u64
-    ensures { result ≡ last_size list count }
+#[tactic(auto, unfolding(crate::specs::Sums::last_size))]
+fn last_size(list: &[ObjectRecord; 4096], count: usize) -> u64
+    ensures { result ≡ last_size list.now count }
 {
-    if count == 0 {
+    let Some(last) = count.checked_sub(1) else {
         return 0;
+    };
+    match list.get(last) {
+        Some(record) => u64::from(record.size),
+        None => 0,
     }
-    if 4096 < count {
-        return 0;
-    }
-    let last = count - 1;
-    let r = list[last];
-    size(r)
 }
 
 // It is walked in one call that fills a list: the size of its last object.
@@ -210,7 +193,5 @@ pub extern "C" fn fill_once(
         map_size,
     );
     let listed = listing::fill(h, source, 4096);
-    let walked = listed.walked;
-    let list = listed.list;
-    last_size(list, walked.count)
+    last_size(&listed.list, listed.walked.count)
 }

@@ -11,4 +11,4 @@ returns-then-chunk-end c = rw (← c.map_end-end.ensures.0) (search cases)
 
 pub returns : goal.returns
 unfolding enter_chunk when◌then◌else◌
-returns c = rw (← c.map_end-end.ensures.0, lt-leb _ _ c.if-chunk-end.false) c.failing.ensures
+returns c = rw (← c.map_end-end.ensures.0, lt-leb _ _ c.if-chunk-end.false) (rw c.at_chunk.ensures at c.failing.ensures)

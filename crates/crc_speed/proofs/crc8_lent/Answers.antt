@@ -1,17 +1,17 @@
-use Rattle.std.proofs.Common.{ℕ, ◌≡◌, ◌-◌, suc, sym, ap, ◌∙◌, arith}
+use Rattle.std.proofs.Common.{ℕ, zero, suc, ◌≡◌, List, refl, add-one}
+use Rattle.crc.specs.Crc.{crc_of}
 use Rattle.crc_speed.specs.Times.{crc_times}
 use Rattle.crc_speed.proofs.crc8_lent.Goals as goal
 
-pub loop-left-preserved : goal.loop-left-preserved
+-- once more at the end
+once_more : (n seed : ℕ) (bytes : List ℕ) → crc_of (crc_times n seed bytes) bytes ≡ crc_times (suc n) seed bytes
 unfolding crc_times
-loop-left-preserved c =
-    let at = c.loop-left in
-    let s = c.args.«data».now in
-    let e : at.left ≡ suc (at.left - 1) = omega arith in
-    ap (λ (x : ℕ). crc_times (at.left - 1) x s) c.by_eight-crc.ensures ∙ ap (λ (n : ℕ). crc_times n at.crc s) (sym e) ∙ at.invariant
+once_more zero seed bytes = refl
+once_more (suc n) seed bytes = once_more n (crc_of seed bytes) bytes
 
-pub returns : goal.returns
+pub loop-init : goal.loop-init
 unfolding crc_times
-returns c =
-    let e : c.loop-left.left ≡ 0 = omega arith in
-    ap (λ (n : ℕ). crc_times n c.loop-left.crc c.args.«data».now) (sym e) ∙ c.loop-left.invariant
+loop-init c = refl
+
+pub loop-preserved : goal.loop-preserved
+loop-preserved c = rw (add-one, ← once_more, ← c.loop.invariant) c.by_eight-crc.ensures

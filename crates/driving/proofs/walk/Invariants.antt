@@ -5,8 +5,8 @@ use Rattle.driving.specs.Ran.{most_bytes, Ran}
 use Rattle.driving.proofs.Chosen.{Turning}
 use Rattle.driving.proofs.walk.Given as goal
 
-abbrev pub invariant-loop-ending : goal.invariant-loop-ending
-invariant-loop-ending g l = Ran l.h l.source l.cuts l.turn l.state l.tally × Turning l.cuts l.turn
+abbrev pub invariant-loop-piece : goal.invariant-loop-piece
+invariant-loop-piece g l = Ran l.h l.source l.cuts l.turn l.state l.tally × Turning l.cuts l.turn
 
-abbrev pub decreases-loop-ending : goal.decreases-loop-ending
-decreases-loop-ending g l = most_bytes l.h - l.tally.bytes
+abbrev pub decreases-loop-piece : goal.decreases-loop-piece
+decreases-loop-piece g l = most_bytes l.h - l.tally.bytes

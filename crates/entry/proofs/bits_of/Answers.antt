@@ -1,19 +1,12 @@
 -- `bits_of` meets its contract: a mask of the low bits is a remainder.
-use native.Mathlib.Omega.{arith}
 use lib.Bits.{and_mask}
 use Rattle.streaming.specs.Choose.{when◌then◌else◌}
 use Rattle.entry.specs.Entry.{bits_of}
 use Rattle.entry.proofs.bits_of.Goals as goal
 
-pub overflow_cast-result : goal.overflow_cast-result
-overflow_cast-result c = omega (arith, and_mask c.args.byte 6)
-
 pub returns-then-is_last-field : goal.returns-then-is_last-field
 unfolding bits_of when◌then◌else◌
 returns-then-is_last-field c = rw (← c.is_last.ensures, c.if-is_last-field.true) (and_mask c.args.byte 6)
-
-pub overflow_cast-result-2 : goal.overflow_cast-result-2
-overflow_cast-result-2 c = omega (arith, and_mask c.args.byte 7)
 
 pub returns : goal.returns
 unfolding bits_of when◌then◌else◌

@@ -1,27 +1,22 @@
--- `locator` meets its contract: what is left to search decides.
-use mathlib.Core.Path.{refl}
-use borrow.Author.Rules.{rules}
-use native.Mathlib.Omega.{arith}
+-- `locator` meets its contract: the chain finds the first of that number.
+use Rattle.std.proofs.Common.{rules, ◌≡◌}
+use Rattle.std.specs.Prelude.{take, eqb}
+use Rattle.std.specs.List.{find}
+use Rattle.std.proofs.lemmas.Iterator.{YieldsList-from_slice, YieldsList-from_take}
+use Rattle.std.proofs.lemmas.Iterator.Consumers.{YieldsList-at}
+use Rattle.std.proofs.lemmas.Iterator.Search.{find_from_yields_List}
+use borrow.Author.Tests.{tests}
 use Rattle.rules.specs.Header.{locator_of}
-use Rattle.streaming.proofs.Arrays.{length-of}
-use Rattle.header.proofs.Locating.{found, passed, none}
-use mathlib.Core.Logic.{inl, inr}
+use Rattle.streaming.specs.declared.Locator.{Locator}
+use Rattle.header.proofs.Locating.{first_found}
 use Rattle.header.proofs.locator.Goals as goal
 
-pub loop-i-init : goal.loop-i-init
+pub returns : goal.returns
 unfolding locator_of
-loop-i-init c = (search rules, refl)
-
-pub returns-then-l-number : goal.returns-then-l-number
-returns-then-l-number c =
-    found _ _ c.loop-i.i (search (rules, length-of)) c.loop-i.invariant.1 (search rules) (omega arith) c.if-l-number.true
-
-pub loop-i-preserved : goal.loop-i-preserved
-loop-i-preserved c =
-    (search rules, passed _ _ c.loop-i.i (search (rules, length-of)) c.loop-i.invariant.1 (search rules) (omega arith) c.if-l-number.false)
-
-pub returns-after-loop-i : goal.returns-after-loop-i
-returns-after-loop-i c = none _ _ c.loop-i.i (search (rules, length-of)) c.loop-i.invariant.1 (inl (search rules))
-
-pub returns-then-count-i : goal.returns-then-count-i
-returns-then-count-i c = none _ _ c.loop-i.i (search (rules, length-of)) c.loop-i.invariant.1 (inr (omega arith))
+returns c =
+    let found : c.copied.result ≡ find (λ (l : Locator). eqb l.number c.args.number) (take c.args.h.count c.args.h.locators) =
+    rw c.copied.ensures (find_from_yields_List (λ (l : Locator). eqb l.number c.args.number) _ _ c.find.result c.find.ensures.ran
+    (YieldsList-from_take c.args.h.count (YieldsList-at c.take.ensures.source (YieldsList-from_slice c.args.h.locators cc)) c.take.ensures.count)
+    (λ x b q k. search (rules, tests)))
+    in
+    rw (c.unwrap_or.ensures, found) (first_found c.args.number _)

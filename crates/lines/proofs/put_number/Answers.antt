@@ -1,24 +1,19 @@
 -- `put_number` meets its contract.
-use lib.ListN.{length-set}
-use native.Mathlib.Omega.{arith}
-use Rattle.lines.proofs.Laws.{at_most_twenty, put_law}
+use Rattle.std.proofs.Common.{◌≡◌, ◌+◌, ◌∙◌, ◌∷◌, [], length, take, arith, ap, sym, add-one, append_assoc}
+use Rattle.std.proofs.lemmas.Slice.{take-put_mid}
+use lib.ListN.{set, length-set}
+use lib.Seq.{take-suc-set}
+use Rattle.lines.specs.Line.{decimal_of}
+use Rattle.lines.proofs.Laws.{text_of}
 use Rattle.lines.proofs.put_number.Goals as goal
 
-pub copy_in-requires : goal.copy_in-requires
-copy_in-requires c =
-    simp length-set (omega (arith, at_most_twenty c.args.n c.decimal-k.result (omega arith) c.decimal-k.ensures.len, c.decimal-k.ensures.in_bounds.1))
-
-pub overflow_add-result-2 : goal.overflow_add-result-2
-overflow_add-result-2 c =
-    omega (arith, at_most_twenty c.args.n c.decimal-k.result (omega arith) c.decimal-k.ensures.len, c.requires)
-
-pub shape_of-out : goal.shape_of-out
-shape_of-out c = simp length-set at c.copy_in.auto.dst
-
-pub returns : goal.returns
-returns c =
-    let m = at_most_twenty c.args.n c.decimal-k.result (omega arith) c.decimal-k.ensures.len in record {
-      text = put_law c.args.out.now c.args.at c.args.n c.decimal-k.result c.decimal-k.new.out c.copy_in.new.dst c.requires (omega arith)
-          c.decimal-k.ensures.in_bounds.1 c.decimal-k.ensures.len c.decimal-k.ensures.digits c.copy_in.ensures;
-      place = (omega arith, omega (arith, m));
-    }
+pub returns-clause-text : goal.returns-clause-text
+returns-clause-text c =
+    let text : c.copy_from_slice.new.self ≡ decimal_of c.args.n = c.copy_from_slice.ensures.after ∙ c.decimal-k.ensures.digits ∙ text_of c.args.n c.decimal-k.result c.decimal-k.ensures.len in
+    let long : c.decimal-k.result ≡ length c.copy_from_slice.new.self = c.decimal-k.ensures.in_bounds.1 ∙ ap length (sym c.copy_from_slice.ensures.after) in
+    rw (
+      take-put_mid (c.args.at + 1) _ (set c.args.out.now c.args.at 32) c.copy_from_slice.new.self (c.args.at + 1 + c.decimal-k.result) (omega (arith, long)) (simp length-set (omega (arith, c.requires))),
+      text,
+      add-one,
+      take-suc-set c.args.out.now c.args.at 32 (omega (arith, c.requires)),
+    ) (append_assoc (take c.args.at c.args.out.now) (32 ∷ []) (decimal_of c.args.n))

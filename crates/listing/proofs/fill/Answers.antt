@@ -26,8 +26,8 @@ places_lent n most h = ap length (take-replicate n most mark h) ∙ length-repli
 pub returns : goal.returns
 returns c =
     let said = c.walk-walked.ensures in
-    let n = c.lent-n.result in
-    let fits : n ≤ most_places = omega (arith, c.lent-n.ensures) in (
-      said.0 ∙ ap (λ (places : ℕ). with_room places (survey_of c.args.h c.args.src.now)) (places_lent n most_places fits ∙ c.lent-n.ensures),
-      came_home n (min c.args.places most_places) most_places (list_after c.args.h c.args.src.now) c.walk-walked.new.list c.lent-n.ensures (omega arith) said.1,
+    let n = c.min-n.result in
+    let fits : n ≤ most_places = omega (arith, c.min-n.ensures) in (
+      said.0 ∙ ap (λ (places : ℕ). with_room places (survey_of c.args.h c.args.src.now)) (places_lent n most_places fits ∙ c.min-n.ensures),
+      came_home n (min c.args.places most_places) most_places (list_after c.args.h c.args.src.now) c.walk-walked.new.list c.min-n.ensures (omega arith) said.1,
     )

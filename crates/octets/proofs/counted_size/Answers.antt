@@ -1,19 +1,25 @@
 -- `counted_size` meets its contract.
-use mathlib.Core.Path.{refl}
+use mathlib.Core.Path.{◌≡◌, refl, ap, ◌∙◌}
 use native.Mathlib.Omega.{arith}
-use Rattle.octets.proofs.Counted.{cut_short, all_there}
+use lib.ListN.{length-take, take, drop}
+use Rattle.std.specs.Int.{w32, from_le_bytes}
+use Rattle.octets.specs.Octets.{little_endian}
+use Rattle.octets.proofs.Counted.{cut_short, counted}
+use Rattle.octets.proofs.Laws.{four_bytes}
 use Rattle.octets.proofs.counted_size.Goals as goal
 
-pub returns-then-len-lt4 : goal.returns-then-len-lt4
-returns-then-len-lt4 c = let a = c.args in (cut_short a.s.now a.at _ refl (omega arith), omega arith)
+pub returns-in_err-checked_sub-clause-size : goal.returns-in_err-checked_sub-clause-size
+returns-in_err-checked_sub-clause-size c =
+    c.from_residual.ensures ∙ cut_short c.args.s.now c.args.at _ refl (omega (arith, c.in_err-checked_sub.ensures))
 
-pub returns-then-len-at : goal.returns-then-len-at
-returns-then-len-at c = let a = c.args in (cut_short a.s.now a.at _ refl (omega arith), omega arith)
+pub returns-in_err-behind-clause-size : goal.returns-in_err-behind-clause-size
+returns-in_err-behind-clause-size c =
+    c.from_residual-in_err-behind.ensures
+    ∙ cut_short c.args.s.now c.args.at _ refl (omega (arith, c.in_ok-checked_sub.ensures, c.in_err-behind.ensures))
 
-pub returns-then-len-at-2 : goal.returns-then-len-at-2
-returns-then-len-at-2 c =
-    (cut_short c.args.s.now c.args.at c.number_at-n.result c.number_at-n.ensures.0 (omega arith), omega arith)
-
-pub returns : goal.returns
-returns c =
-    (all_there c.args.s.now c.args.at c.number_at-n.result c.number_at-n.ensures.0 (omega arith), omega arith)
+pub returns-clause-size : goal.returns-clause-size
+returns-clause-size c =
+    let n : c.from_le_bytes-n.result ≡ little_endian (take 4 (drop c.args.at c.args.s.now)) =
+    c.from_le_bytes-n.ensures ∙ ap (from_le_bytes w32) c.array_at.ensures ∙ four_bytes _ (simp length-take (omega arith)) in
+    c.then_some.ensures
+    ∙ counted c.args.s.now c.args.at _ n c.in_ok-behind.behind (omega (arith, c.in_ok-checked_sub.ensures, c.in_ok-behind.ensures))

@@ -1,19 +1,13 @@
 -- `with_room` meets its contract.
-use Prim.Native.Nat.{◌≤◌, ◌<◌}
-use native.Mathlib.Omega.{arith}
 use borrow.Author.Tests.{le-leb, lt-leb}
 use Rattle.streaming.specs.Choose.{when◌then◌else◌}
 use Rattle.oneshot.specs.OneShot.{with_room}
 use Rattle.oneshot.proofs.with_room.Goals as goal
 
-pub returns-then-count-places : goal.returns-then-count-places
+pub returns-then-w-places-clause-answer : goal.returns-then-w-places-clause-answer
 unfolding with_room when◌then◌else◌
-returns-then-count-places c =
-    let room : c.args.w.count ≤ c.args.places = omega (arith, c.if-count-places.true) in
-    rw (le-leb c.args.w.count c.args.places room)
+returns-then-w-places-clause-answer c = rw (le-leb c.args.w.count c.args.places c.if-w-places.true)
 
-pub returns : goal.returns
+pub returns-clause-answer : goal.returns-clause-answer
 unfolding with_room when◌then◌else◌
-returns c =
-    let short : c.args.places < c.args.w.count = omega (arith, c.if-count-places.false) in
-    rw (lt-leb c.args.w.count c.args.places short)
+returns-clause-answer c = rw (lt-leb c.args.w.count c.args.places c.if-w-places.false)

@@ -1,10 +1,6 @@
 -- `answers` meets its contract.
-use Prim.Native.Nat.{◌-◌, ◌≤◌}
-use lib.ListN.{length}
+use Rattle.std.proofs.Common.{length}
 use Rattle.replay.proofs.answers.Given as goal
 
-abbrev pub invariant-loop-at : goal.invariant-loop-at
-invariant-loop-at g l = l.at ≤ length l.s
-
-abbrev pub decreases-loop-at : goal.decreases-loop-at
-decreases-loop-at g l = length l.s - l.at
+abbrev pub decreases-loop-n : goal.decreases-loop-n
+decreases-loop-n g l = length l.rest

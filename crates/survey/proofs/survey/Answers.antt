@@ -5,17 +5,14 @@ use Rattle.survey.specs.Survey.{survey_of}
 use Rattle.survey.proofs.Listed.{begun_is, refused_is}
 use Rattle.survey.proofs.survey.Goals as goal
 
-pub whole-requires : goal.whole-requires
-whole-requires c = begun_is _ (sym c.in-Begun.is ∙ c.start_answer.ensures)
-
-pub returns-in-Refused : goal.returns-in-Refused
+pub returns-in-Err : goal.returns-in-Err
 unfolding survey_of
-returns-in-Refused c =
+returns-in-Err c =
     c.refused.ensures
-    ∙ rw (refused_is (start_refusal c.args.h) _ (sym c.in-Refused.is ∙ c.start_answer.ensures))
+    ∙ rw (refused_is (start_refusal c.args.h) _ (sym c.in-Err.is ∙ c.start_answer.ensures))
 
-pub returns-in-Begun : goal.returns-in-Begun
+pub returns-in-Ok : goal.returns-in-Ok
 unfolding survey_of
-returns-in-Begun c =
+returns-in-Ok c =
     c.whole.ensures
-    ∙ rw (begun_is (start_refusal c.args.h) (sym c.in-Begun.is ∙ c.start_answer.ensures))
+    ∙ rw (begun_is (start_refusal c.args.h) (sym c.in-Ok.is ∙ c.start_answer.ensures))

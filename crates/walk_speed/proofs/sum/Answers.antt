@@ -21,21 +21,23 @@ module _ (src : List ℕ) (cut : ℕ) (s : FlatWalker) where
   unfolding sum_of
   ends left total whole l h = sym (add-zero total) ∙ ap (λ (n : ℕ). total + sum_of n s src cut) (sym l) ∙ h
 
-pub loop-left-init : goal.loop-left-init
-loop-left-init c = (zero-add _, omega arith)
+pub loop-init : goal.loop-init
+loop-init c =
+    let e : c.args.turns - 0 ≡ c.args.turns = omega arith in
+    (zero-add _ ∙ ap (λ (n : ℕ). sum_of n c.args.begun c.args.source.now c.args.cut) e, omega arith)
 
 pub overflow_add-total : goal.overflow_add-total
 overflow_add-total c =
-    omega (arith, c.loop-left.invariant.1, c.size_of-total.ensures.1, c.ranges.turns)
+    omega (arith, c.loop.invariant.1, c.size_of-total.ensures.1, c.ranges.turns)
 
-pub loop-left-preserved : goal.loop-left-preserved
-loop-left-preserved c =
-    let e : c.loop-left.left ≡ suc (c.loop-left.left - 1) = omega arith in (
-      goes_on c.args.source.now c.args.cut c.loop-left.s _ _ _ _ _ _ e c.loop-left.invariant.0 c.turn-fed.ensures c.size_of-total.ensures.0,
-      omega (arith, c.loop-left.invariant.1, c.size_of-total.ensures.1),
+pub loop-preserved : goal.loop-preserved
+loop-preserved c =
+    let e : c.args.turns - c.loop.counter ≡ suc (c.args.turns - (c.loop.counter + 1)) = omega (arith, c.loop-test.true) in (
+      goes_on c.args.source.now c.args.cut c.loop.s _ _ _ _ _ _ e c.loop.invariant.0 c.turn-fed.ensures c.size_of-total.ensures.0,
+      omega (arith, c.loop.invariant.1, c.size_of-total.ensures.1),
     )
 
 pub returns : goal.returns
 returns c =
-    let e : c.loop-left.left ≡ 0 = omega arith in
-    ends c.args.source.now c.args.cut c.loop-left.s _ _ _ e c.loop-left.invariant.0
+    let e : c.args.turns - c.loop.counter ≡ 0 = omega (arith, c.loop-test.false) in
+    ends c.args.source.now c.args.cut c.loop.s _ _ _ e c.loop.invariant.0

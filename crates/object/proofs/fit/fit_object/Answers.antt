@@ -15,6 +15,7 @@ returns-then-object_consistent c =
     (rw (← c.object_consistent.ensures, c.if-object_consistent.true) c.size_in_words.ensures)
     (fit_object_shows c.args.s)
 
-pub returns : goal.returns
+pub returns-else-object_consistent : goal.returns-else-object_consistent
 unfolding fit_object
-returns c = telling _ _ (rw (← c.object_consistent.ensures, c.if-object_consistent.false)) (fit_object_shows c.args.s)
+returns-else-object_consistent c =
+    telling _ _ (rw (← c.object_consistent.ensures, c.if-object_consistent.false)) (fit_object_shows c.args.s)

@@ -6,8 +6,5 @@ use lib.Bits.{bit_or, and_mask}
 use lib.Pow.{shl_exact}
 use Rattle.object.proofs.words.with_word.Goals as goal
 
-pub overflow_cast-result : goal.overflow_cast-result
-overflow_cast-result c = omega (arith, and_mask c.args.word 15)
-
 pub returns : goal.returns
 returns c = rw (and_mask c.args.word 15) (ap (bit_or c.args.size) (shl_exact 15 (15 * c.args.words) 32 (omega arith) (omega arith)))

@@ -9,17 +9,18 @@ use borrow.Author.Tests.{lt-ltb, le-ltb}
 use Rattle.streaming.specs.Choose.{when◌then◌else◌}
 use Rattle.streaming.specs.declared.ObjectRecord.{ObjectRecord}
 use Rattle.octets.specs.Octets.{little_endian}
+use Rattle.std.specs.Prelude.{Option}
 use Rattle.account.specs.Statement.{part}
 use Rattle.rules.specs.Prologue.{prologue_of}
 use Rattle.rules.specs.Object.{sized, unending, size_of_words, size_at}
 use Rattle.records.specs.Answer.{head_of}
-use Rattle.records.specs.declared.Head.{Head}
+use Rattle.records.specs.declared.Opening.{Opening}
 use Rattle.oneshot.specs.Cursor.{blank, record_of_head, sized_at, record_at}
 use Rattle.oneshot.proofs.Reading.{words_at}
 use Rattle.oneshot.proofs.objects.record_at.Goals as goal
 
 module _ (r2000 : Bool) (src : List ℕ) (handle location : ℕ) where
-  record_is : (field_bytes size : ℕ) (head : Head) (r : ObjectRecord) → size_at src location ≡ sized field_bytes size
+  record_is : (field_bytes size : ℕ) (head : Option Opening) (r : ObjectRecord) → size_at src location ≡ sized field_bytes size
       → head ≡ head_of (prologue_of r2000 (take 16 (part src (location + field_bytes) size))) → r ≡ record_of_head handle location size head
       → r ≡ record_at r2000 src handle location
   unfolding record_at
@@ -46,18 +47,18 @@ module _ (src : List ℕ) (location first : ℕ) (f : first ≡ little_endian (p
 
 pub returns-then-first-lt32768 : goal.returns-then-first-lt32768
 returns-then-first-lt32768 c =
-    record_is c.args.r2000 c.args.src.now c.args.handle c.args.location 2 c.word_at-first.result c.head_at.result c.record_of_head.result
-    (one_word c.args.src.now c.args.location c.word_at-first.result c.word_at-first.ensures.0 c.if-first-lt32768.true) c.head_at.ensures c.record_of_head.ensures
+    record_is c.args.r2000 c.args.src.now c.args.handle c.args.location 2 _ c.head_at.result c.record_of_head.result
+    (rw c.from-size.ensures (one_word c.args.src.now c.args.location c.word_at-first.result c.word_at-first.ensures c.if-first-lt32768.true)) c.head_at.ensures c.record_of_head.ensures
 
 pub returns-then-second-lt32768 : goal.returns-then-second-lt32768
 returns-then-second-lt32768 c =
     record_is c.args.r2000 c.args.src.now c.args.handle c.args.location 4 _ c.head_at-then-second-lt32768.result c.record_of_head-then-second-lt32768.result
-    (two_words_lem c.args.src.now c.args.location c.word_at-first.result c.word_at-first.ensures.0 c.word_at-second.result c.word_at-second.ensures.0
-    c.if-first-lt32768.false c.if-second-lt32768.true)
+    (rw (c.from.ensures, c.from-then-second-lt32768.ensures) (two_words_lem c.args.src.now c.args.location c.word_at-first.result c.word_at-first.ensures c.word_at-second.result c.word_at-second.ensures
+    c.if-first-lt32768.false c.if-second-lt32768.true))
     c.head_at-then-second-lt32768.ensures c.record_of_head-then-second-lt32768.ensures
 
 pub returns : goal.returns
 returns c =
     blank-is c.args.r2000 c.args.src.now c.args.handle c.args.location
-    (no_size c.args.src.now c.args.location c.word_at-first.result c.word_at-first.ensures.0 c.word_at-second.result c.word_at-second.ensures.0 c.if-first-lt32768.false c.if-second-lt32768.false)
+    (no_size c.args.src.now c.args.location c.word_at-first.result c.word_at-first.ensures c.word_at-second.result c.word_at-second.ensures c.if-first-lt32768.false c.if-second-lt32768.false)
     c.blank.result c.blank.ensures

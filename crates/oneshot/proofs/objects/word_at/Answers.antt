@@ -1,7 +1,6 @@
 -- `word_at` meets its contract.
-use borrow.Author.Rules.{rules}
 use Rattle.oneshot.proofs.Reading.{little_two}
 use Rattle.oneshot.proofs.objects.word_at.Goals as goal
 
 pub returns : goal.returns
-returns c = (rw (little_two _ _, ← c.byte_at-2.ensures, ← c.byte_at.ensures) c.le16.ensures, search rules)
+returns c = rw (little_two _ _, ← c.byte_at-2.ensures, ← c.byte_at.ensures) c.le16.ensures

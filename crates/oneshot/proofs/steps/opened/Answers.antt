@@ -21,16 +21,13 @@ module _ (src : List ℕ) (c : Cursor) where
   unfolding opened_of when◌then◌else◌
   opens size e h = rw (← e, le-leb _ _ h)
 
-pub returns-then-len-chunk : goal.returns-then-len-chunk
-returns-then-len-chunk c = shut _ _ (omega (arith, c.if-len-chunk.true))
+pub returns-then-left-lt2 : goal.returns-then-left-lt2
+returns-then-left-lt2 c = shut _ _ (omega (arith, c.if-left-lt2.true, c.saturating_sub-left.ensures))
 
-pub returns-then-len-chunk-lt2 : goal.returns-then-len-chunk-lt2
-returns-then-len-chunk-lt2 c = shut _ _ (omega (arith, c.if-len-chunk-lt2.true))
-
-pub returns-then-len-chunk-2 : goal.returns-then-len-chunk-2
+pub returns-then-left-size : goal.returns-then-left-size
 unfolding chunk_size
-returns-then-len-chunk-2 c = shut _ _ (omega (arith, c.if-len-chunk-2.true, c.be16_at-size.ensures))
+returns-then-left-size c = shut _ _ (omega (arith, c.if-left-size.true, c.be16_at-size.ensures, c.saturating_sub-left.ensures))
 
 pub returns : goal.returns
 unfolding chunk_size
-returns c = opens _ _ c.be16_at-size.result c.be16_at-size.ensures (omega (arith, c.if-len-chunk-2.false))
+returns c = opens _ _ c.be16_at-size.result c.be16_at-size.ensures (omega (arith, c.if-left-size.false, c.saturating_sub-left.ensures))

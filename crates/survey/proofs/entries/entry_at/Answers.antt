@@ -6,8 +6,8 @@ use Rattle.survey.proofs.entries.entry_at.Goals as goal
 
 pub returns-then-stop-at : goal.returns-then-stop-at
 unfolding with_handle groups_of
-returns-then-stop-at c = rw (part-behind c.args.src.now c.args.at c.args.end (omega (arith, c.least-stop.ensures)))
+returns-then-stop-at c = rw (part-behind c.args.src.now c.args.at c.args.end (omega (arith, c.min-stop.ensures)))
 
 pub returns : goal.returns
 returns c =
-    rw (part_cut c.args.src.now c.args.at c.args.end c.least-stop.result c.least-stop.ensures) c.entry_in.ensures
+    rw (part_cut c.args.src.now c.args.at c.args.end c.min-stop.result c.min-stop.ensures) c.entry_in.ensures

@@ -1,43 +1,30 @@
--- `groups_in` meets its contract: so far every high bit is set.
-use Prim.Native.Nat.{suc, ◌+◌}
-use mathlib.Core.Path.{◌≡◌, ap, sym, ◌∙◌}
+-- `groups_in` meets its contract.
+use Prim.Native.Nat.{suc}
+use mathlib.Core.Path.{sym, ap, ◌∙◌}
 use native.Mathlib.Omega.{arith}
 use native.Mathlib.Numerals.{add-one}
-use lib.ListN.{length, take}
-use lib.Seq.{length-take-le}
-use Rattle.survey.specs.Entries.{groups_read}
-use Rattle.survey.specs.declared.entries.Groups.TheVariants as groups
-use Rattle.survey.proofs.Groups.{goes_further, groups_whole, groups_unending}
+use lib.ListN.{take, length-take}
+use Rattle.std.specs.Prelude.{option_map}
+use Rattle.std.proofs.lemmas.List.Quantifiers.{position-Some}
+use Rattle.survey.proofs.Groups.{position_groups, is_last}
 use Rattle.survey.proofs.entries.groups_in.Goals as goal
 
-pub loop-i-init : goal.loop-i-init
-loop-i-init c = (omega arith, omega arith, λ j l. absurd (omega arith))
-
-pub returns-then-i-eq9 : goal.returns-then-i-eq9
-returns-then-i-eq9 c =
-    ap groups_read (sym (groups_unending c.args.bytes.now 9 c.loop-i.i (omega arith) c.loop-i.invariant.2))
-
-pub bounds-bytes-i : goal.bounds-bytes-i
-bounds-bytes-i c = omega arith
+pub returns-in_err-last : goal.returns-in_err-last
+returns-in_err-last c =
+    record {
+      read = c.from_residual.ensures ∙ sym (position_groups (take 9 c.args.bytes.now) ∙ ap (option_map suc) (sym c.last_group.ensures ∙ c.in_err-last.was));
+      inside = rw c.from_residual.ensures tt;
+    }
 
 pub overflow_add-result : goal.overflow_add-result
-overflow_add-result c = omega arith
-
-pub returns-then-bytes-i-lt128 : goal.returns-then-bytes-i-lt128
-returns-then-bytes-i-lt128 c =
-    let n : length (take (suc c.loop-i.i) c.args.bytes.now) ≡ c.loop-i.i + 1 = length-take-le (suc c.loop-i.i) c.args.bytes.now (omega arith) ∙ sym (add-one c.loop-i.i) in
-    rw (groups_whole c.args.bytes.now 9 c.loop-i.i (omega arith) (omega arith) c.loop-i.invariant.2 c.if-bytes-i-lt128.true) (ap groups.Whole (sym n))
-
-pub overflow_add-i : goal.overflow_add-i
-overflow_add-i c = omega arith
-
-pub loop-i-smaller : goal.loop-i-smaller
-loop-i-smaller c = omega arith
-
-pub loop-i-preserved : goal.loop-i-preserved
-loop-i-preserved c =
-    (omega arith, omega arith, goes_further c.args.bytes.now c.loop-i.i c.loop-i.invariant.2 c.if-bytes-i-lt128.false)
+overflow_add-result c =
+    let found = position-Some is_last (take 9 c.args.bytes.now) c.in_ok-last.last 0 (sym c.last_group.ensures ∙ c.in_ok-last.was) in
+    omega (arith, found.0, length-take 9 c.args.bytes.now)
 
 pub returns : goal.returns
 returns c =
-    ap groups_read (sym (groups_unending c.args.bytes.now 9 c.loop-i.i (omega arith) c.loop-i.invariant.2))
+    let found = position-Some is_last (take 9 c.args.bytes.now) c.in_ok-last.last 0 (sym c.last_group.ensures ∙ c.in_ok-last.was) in
+    record {
+      read = rw (add-one) (sym (position_groups (take 9 c.args.bytes.now) ∙ ap (option_map suc) (sym c.last_group.ensures ∙ c.in_ok-last.was)));
+      inside = (omega arith, omega (arith, found.0, length-take 9 c.args.bytes.now), omega (arith, found.0, length-take 9 c.args.bytes.now));
+    }

@@ -1,62 +1,36 @@
 -- `location_in` meets its contract.
+use Prim.Native.Nat.{◌+◌, min}
 use mathlib.Core.Path.{◌≡◌, sym, ◌∙◌}
 use native.Mathlib.Omega.{arith}
-use lib.ListN.{length, take}
-use lib.Seq.{length-take-le}
+use Rattle.std.proofs.lemmas.Result.{err_from_is_err_and}
+use lib.ListN.{length}
 use Rattle.rules.specs.Entry.{with_location}
-use Rattle.survey.proofs.Groups.{Whole, whole_read, unending_read}
+use Rattle.survey.proofs.Groups.{whole_read, unending_read}
 use Rattle.survey.proofs.Moves.{location-leads, location_stays}
 use Rattle.survey.proofs.entries.location_in.Goals as goal
 
-pub returns-in_default : goal.returns-in_default
+pub returns-in_err-m : goal.returns-in_err-m
 unfolding with_location
-returns-in_default c =
-    rw (unending_read c.args.bytes.now (sym c.in_default.is ∙ c.groups_in.ensures), c.least.ensures)
+returns-in_err-m c =
+    let p = err_from_is_err_and c.from_residual.result c.from_residual.ensures.1 in
+    let none = c.in_err-m.ensures.ok_part in
+    let value = rw none at c.in_err-m.ensures.value in
+    let at : c.in_err-m.field-0.0 ≡ c.args.n + c.min.result = cc value in
+    let byte : c.in_err-m.field-0.0 ≡ c.args.n + min 10 (length c.args.bytes.now) = omega (arith, at, c.min.ensures) in
+    rw (p.1, p.2, unending_read c.args.bytes.now (sym c.groups_in.ensures.read ∙ none), byte)
 
-pub slice_bounds-location_delta-end : goal.slice_bounds-location_delta-end
-slice_bounds-location_delta-end c =
-    let whole : Whole c.args.bytes.now c.in-Whole.m = whole_read c.args.bytes.now c.in-Whole.m (sym c.in-Whole.is ∙ c.groups_in.ensures) in
-    let is_whole : length (take c.in-Whole.m c.args.bytes.now) ≡ c.in-Whole.m = length-take-le c.in-Whole.m c.args.bytes.now whole.inside in
-    sym is_whole
+pub returns-in_err-to : goal.returns-in_err-to
+returns-in_err-to c =
+    let whole = whole_read c.args.bytes.now c.in_ok-m.m (sym c.groups_in.ensures.read ∙ c.in_ok-m.ensures.ok_part) in
+    let p = err_from_is_err_and c.from_residual-in_err-to.result c.from_residual-in_err-to.ensures.1 in
+    let none = c.in_err-to.ensures.ok_part in
+    let value = rw none at c.in_err-to.ensures.value in
+    let byte : c.in_err-to.field-0.0 ≡ c.args.n + c.in_ok-m.m = cc value in
+    rw (p.1, p.2, byte) (location_stays _ _ _ _ _ _ c.args.bytes.now whole c.location_delta-value.ensures c.is_back-back.ensures (sym c.moved_by.ensures ∙ none))
 
-pub location_delta-value-requires : goal.location_delta-value-requires
-location_delta-value-requires c =
-    let whole : Whole c.args.bytes.now c.in-Whole.m = whole_read c.args.bytes.now c.in-Whole.m (sym c.in-Whole.is ∙ c.groups_in.ensures) in
-    let is_whole : length (take c.in-Whole.m c.args.bytes.now) ≡ c.in-Whole.m = length-take-le c.in-Whole.m c.args.bytes.now whole.inside in
-    (omega (arith, whole.some_bytes), omega (arith, whole.nine))
-
-pub slice_bounds-is_back-end : goal.slice_bounds-is_back-end
-slice_bounds-is_back-end c =
-    let whole : Whole c.args.bytes.now c.in-Whole.m = whole_read c.args.bytes.now c.in-Whole.m (sym c.in-Whole.is ∙ c.groups_in.ensures) in
-    let is_whole : length (take c.in-Whole.m c.args.bytes.now) ≡ c.in-Whole.m = length-take-le c.in-Whole.m c.args.bytes.now whole.inside in
-    sym is_whole
-
-pub is_back-back-requires : goal.is_back-back-requires
-is_back-back-requires c =
-    let whole : Whole c.args.bytes.now c.in-Whole.m = whole_read c.args.bytes.now c.in-Whole.m (sym c.in-Whole.is ∙ c.groups_in.ensures) in
-    let is_whole : length (take c.in-Whole.m c.args.bytes.now) ≡ c.in-Whole.m = length-take-le c.in-Whole.m c.args.bytes.now whole.inside in
-    omega (arith, whole.some_bytes)
-
-pub overflow_add-result-in-To : goal.overflow_add-result-in-To
-overflow_add-result-in-To c =
-    let whole : Whole c.args.bytes.now c.in-Whole.m = whole_read c.args.bytes.now c.in-Whole.m (sym c.in-Whole.is ∙ c.groups_in.ensures) in
-    omega (arith, whole.nine, c.requires)
-
-pub overflow_add-result-in-Nowhere : goal.overflow_add-result-in-Nowhere
-overflow_add-result-in-Nowhere c =
-    let whole : Whole c.args.bytes.now c.in-Whole.m = whole_read c.args.bytes.now c.in-Whole.m (sym c.in-Whole.is ∙ c.groups_in.ensures) in
-    omega (arith, whole.nine, c.requires)
-
-pub returns-in-To : goal.returns-in-To
-returns-in-To c =
-    let whole : Whole c.args.bytes.now c.in-Whole.m = whole_read c.args.bytes.now c.in-Whole.m (sym c.in-Whole.is ∙ c.groups_in.ensures) in
+pub returns : goal.returns
+returns c =
+    let whole = whole_read c.args.bytes.now c.in_ok-m.m (sym c.groups_in.ensures.read ∙ c.in_ok-m.ensures.ok_part) in
     location-leads _ _ _ _ _ _ c.args.bytes.now whole
     c.location_delta-value.ensures c.is_back-back.ensures _
-    (sym c.in-To.is ∙ c.moved_by.ensures)
-
-pub returns-in-Nowhere : goal.returns-in-Nowhere
-returns-in-Nowhere c =
-    let whole : Whole c.args.bytes.now c.in-Whole.m = whole_read c.args.bytes.now c.in-Whole.m (sym c.in-Whole.is ∙ c.groups_in.ensures) in
-    location_stays _ _ _ _ _ _ c.args.bytes.now whole
-    c.location_delta-value.ensures c.is_back-back.ensures
-    (sym c.in-Nowhere.is ∙ c.moved_by.ensures)
+    (sym c.moved_by.ensures ∙ c.in_ok-to.ensures.ok_part)

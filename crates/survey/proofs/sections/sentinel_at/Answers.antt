@@ -11,4 +11,4 @@ use Rattle.survey.proofs.sections.sentinel_at.Goals as goal
 pub returns : goal.returns
 returns c =
     let n : length (part c.args.src.now c.args.at 16) ≡ 16 = length_part c.args.src.now c.args.at 16 (omega arith) in
-    rw (n, whole_sentinel c.args.part c.args.end (omega arith) (omega arith)) at (simp add-sub_cancel_left at c.spells.ensures)
+    rw (n, whole_sentinel c.args.part c.args.side (omega arith)) at (simp add-sub_cancel_left at c.spells.ensures)

@@ -1,8 +1,0 @@
--- `le16` meets its contract.
-use Rattle.octets.specs.Octets.{little_endian}
-use borrow.Author.Rules.{rules}
-use Rattle.octets.proofs.le16.Goals as goal
-
-pub returns : goal.returns
-unfolding little_endian
-returns c = search rules
