@@ -21,7 +21,7 @@ pub fn at_chunk(chunk: u64) -> MapCursor
     ensures { result ≡ at_chunk chunk }
 {
     MapCursor {
-        chunk: chunk,
+        chunk,
         len: 0,
         at: 0,
         handle: 0,
@@ -133,7 +133,8 @@ impl Unit for Chunk {
         None
     }
 
-    // What is left of the size, of the entries or of the checksum.
+    // What is left of the size, of the entries or of the checksum. `feed` makes the same tests, as both definitions do: an enum of the field in hand would be
+    // one account more.
     fn request(self) -> Request {
         let s = self.walker;
         let d = s.done;
@@ -141,18 +142,18 @@ impl Unit for Chunk {
         let offset = m.chunk + d as u64;
         if d < 2 {
             return Request {
-                offset: offset,
+                offset,
                 len: (2 - d) as u64,
             };
         }
         if d < s.size {
             return Request {
-                offset: offset,
+                offset,
                 len: (s.size - d) as u64,
             };
         }
         Request {
-            offset: offset,
+            offset,
             len: (s.size + 2 - d) as u64,
         }
     }

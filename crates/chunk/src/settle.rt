@@ -43,7 +43,7 @@ impl Chunk {
                         stage: Stage::Done,
                         done: 4,
                         size: 2,
-                        field: field,
+                        field,
                         ..s
                     },
                 };
@@ -60,7 +60,7 @@ impl Chunk {
             state: FlatWalker {
                 stage: Stage::Entry,
                 done: s.size + 2,
-                field: field,
+                field,
                 map: first,
                 ..s
             },

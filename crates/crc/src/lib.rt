@@ -64,7 +64,7 @@ fn lent() -> &'static [[u16; 256]; 8]
     &rows::ROWS
 }
 
-// A copy of the table.
+// A copy of the table, and `by_eight` with one that is lent: they stay, since docs/DECISIONS.md names them.
 pub fn table() -> [[u16; 256]; 8]
     ensures { Table result }
 {

@@ -78,6 +78,7 @@ fn first(s: &[u8]) -> Option<(Operation<'_>, &[u8])>
 }
 
 // Whether s is operations and nothing else.
+// `crc_replay`, `heads_replay` and `replay` each have this loop and one that answers: one for all would take a closure with clauses on what it leaves, and be no plainer.
 fn is_operations(s: &[u8]) -> bool {
     let mut rest = s;
     while let Some((_, behind)) = first(rest) {
@@ -99,6 +100,7 @@ fn print_answers(rt: &impl Print, rows: &[[u16; 256]; 8], s: &[u8]) -> io::Resul
 }
 
 fn main(rt: HostRuntime) -> io::Result<()> {
+    // Two lines of the library's, in each program: a crate for them would be no plainer.
     let mut input = Vec::new(rt.alloc());
     rt.reader().take(65536).read_to_end(&mut input)?;
     if input.len() > 60000 || !is_operations(&input) {

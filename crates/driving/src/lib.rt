@@ -10,7 +10,7 @@ ghost use Rattle.tally.specs.Tally.{Continues};
 ghost use Rattle.driving.specs.Ran.{RanWhole, Walkable};
 
 use form::Cuts;
-use lines::Line;
+use lines::say;
 use pieces::Piece;
 use std::io;
 use streaming::{FlatHeader, FlatWalker, Step, StreamError};
@@ -33,13 +33,6 @@ struct Walked {
     ending: Result<(), StreamError>,
     tally: Tally,
     written: io::Result<()>,
-}
-
-fn say(rt: &impl Print, line: Option<Line>) -> io::Result<()> {
-    match line {
-        Some(line) => lines::print(rt, line),
-        None => Ok(()),
-    }
 }
 
 // Feeds a piece of the source, and counts it.

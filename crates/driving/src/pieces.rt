@@ -5,7 +5,7 @@ ghost use Rattle.driving.specs.Pieces.{cut_to, turn_after, next_by};
 use form::Cuts;
 use streaming::{Request, StreamError};
 
-// A piece of the source, by its place and its length.
+// A piece of the source, by its place and its length: no demand, though it has the fields of one.
 #[derive(Clone, Copy)]
 pub struct Piece {
     pub offset: u64,
@@ -23,7 +23,7 @@ fn cut_to(cuts: &Cuts, turn: usize, demand: u64) -> u64
     }
 }
 
-// Behind the last cut comes the first.
+// Behind the last cut comes the first. The turn stays an index beside the cuts, as in the definitions (`cut_to`, `turn_after`, `next_by`).
 #[tactic(auto, unfolding(crate::specs::Pieces::turn_after))]
 pub fn turn_after(cuts: &Cuts, turn: usize) -> usize
     ensures { result ≡ turn_after cuts.now turn }

@@ -18,7 +18,7 @@ pub fn answered(a: Result<Step, StreamError>) -> Option<Line>
     }
 }
 
-// Why the walk ended, unless it finished.
+// Why the walk ended, unless it finished. A match, since a function of another crate, handed to `map`, gets no proof yet.
 pub fn why(e: Result<(), StreamError>) -> Option<Line>
     ensures { saying_text result ≡ why_text e }
 {
@@ -28,6 +28,7 @@ pub fn why(e: Result<(), StreamError>) -> Option<Line>
     }
 }
 
+// Document 01's number of an ending: 0 for a walk that finished.
 fn ending(e: Result<(), StreamError>) -> u64
     ensures { result ≡ ending_number e }
 {

@@ -173,7 +173,7 @@ fn bits_of(byte: u8, field: u8) -> u64
     (byte & 0x7f) as u64
 }
 
-// A location moved back or ahead.
+// A location moved back or ahead. `survey` has another: on a forged location of 2^63 or more a negative zero stays here, as in the Rust.
 fn moved_by(back: bool, location: u64, value: u64) -> Option<u64>
     ensures { result ≡ moved_to (moved_by back location value) }
 {

@@ -14,12 +14,11 @@ use streaming::{FlatWalker, Request, Stage, StreamError, Unit};
 fn ask<U: Unit>(s: FlatWalker) -> Result<Option<Request>, StreamError>
     ensures { result ≡ asked_if (U.is_fit s) (Ok (Some (U.request_of s))) }
 {
-    match U::of(s) {
-        Some(unit) => Ok(Some(unit.request())),
-        None => Err(StreamError::BadState),
-    }
+    let unit = U::of(s).ok_or(StreamError::BadState)?;
+    Ok(Some(unit.request()))
 }
 
+// By the stage: each arm calls the one function, and a closure would be no plainer.
 #[tactic(auto, using(crate::proofs::Calls::choices))]
 pub fn ask_stage(s: FlatWalker) -> Result<Option<Request>, StreamError>
     ensures { result ≡ asked_if (fit_at s.stage s) (request_at s.stage s) }

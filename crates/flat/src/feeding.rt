@@ -1,4 +1,4 @@
-// What a piece does, by the stage: the demand's own refusals first, then the stage takes it; 19 where the state is not fit.
+// What a piece does, by the stage: 19 where the state is not fit, then the demand's own refusals, then the stage takes it.
 ghost use Rattle.std.specs.Prelude.{◌≡◌, ◌<◌, ◌≤◌, length, OnOk};
 ghost use Rattle.streaming.specs.State.{refused_by};
 ghost use Rattle.flat.specs.Offer.{offer_of, fed_if, fed_at};

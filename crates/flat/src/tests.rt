@@ -24,6 +24,7 @@ pub fn fit_at(s: FlatWalker) -> bool
     }
 }
 
+// It differs from `fit_at` in two stages, and each is its definition, arm by arm: one for both would be no plainer.
 pub fn consistent_at(s: FlatWalker) -> bool
     ensures { result ≡ consistent_at s.stage s }
 {

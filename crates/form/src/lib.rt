@@ -9,7 +9,7 @@ use arrayvec::ArrayVec;
 use octets::array_at;
 use std::array;
 use std::marker::Model;
-use streaming::{FlatHeader, Locator};
+use streaming::{FlatHeader, Locator, NO_LOCATOR};
 
 // The sizes at which demands are cut, in turn: at most 64, and none of them is 0.
 #[derive(Drop)]
@@ -78,7 +78,7 @@ struct Shape {
     most: usize,
 }
 
-// A section that stands: how many items it has, where they begin, and where it ends.
+// A section that stands: how many items it has, where they begin, and where it ends. They stay places in the input, since the definitions speak of places.
 #[derive(Clone, Copy)]
 struct Section {
     count: usize,
@@ -112,12 +112,6 @@ const SOURCE: Shape = Shape {
     size: 1,
     least: 0,
     most: MOST_BYTES,
-};
-
-const BLANK_LOCATOR: Locator = Locator {
-    number: 0,
-    offset: 0,
-    size: 0,
 };
 
 #[tactic(auto, using(crate::proofs::Numbers::four_is))]
@@ -169,7 +163,7 @@ fn locator(s: &[u8], count: usize, i: usize) -> Locator
     if i < count {
         locator_at(s, 4 + 9 * i)
     } else {
-        BLANK_LOCATOR
+        NO_LOCATOR
     }
 }
 

@@ -5,16 +5,10 @@ ghost use Rattle.std.specs.Prelude.{◌≡◌, ◌<◌, ◌^◌};
 ghost use Rattle.rules.specs.Header.{locator_of, map_start, map_end, header_end, is_r2000, is_outside, start_refusal};
 ghost use Rattle.header.specs.Start.{start_answer};
 
-use streaming::{FlatHeader, Locator, StreamError};
+use streaming::{FlatHeader, Locator, NO_LOCATOR, StreamError};
 
-// What stands for a locator that is missing.
-const MISSING: Locator = Locator {
-    number: 0,
-    offset: 0,
-    size: 0,
-};
-
-// The first of the counted locators with this number; a missing one is all zero.
+// The first of the counted locators with this number; a missing one is all zero, as the rules say (`locator_of`). The number stays one: a header's locators
+// may have any.
 pub fn locator(h: FlatHeader, number: u8) -> Locator
     ensures { result ≡ locator_of h number }
 {
@@ -23,7 +17,7 @@ pub fn locator(h: FlatHeader, number: u8) -> Locator
         .take(h.count as usize)
         .find(|l| l.number == number)
         .copied()
-        .unwrap_or(MISSING)
+        .unwrap_or(NO_LOCATOR)
 }
 
 pub fn map_start(h: FlatHeader) -> u64

@@ -34,15 +34,20 @@ fn first_of<'a>(s: &'a [u8]) -> Option<(Operation<'a>, &'a [u8])>
         return None;
     };
     let n = usize::from(*n);
-    if *format > 1 || n > HEAD_MOST || n > rest.len() {
+    let format = match *format {
+        0 => RecordFormat::R14,
+        1 => RecordFormat::R2000,
+        _ => return None,
+    };
+    if n > HEAD_MOST || n > rest.len() {
         return None;
     }
-    let format = RecordFormat::from(*format == 1);
     let (head, behind) = rest.split_at(n);
     Some((Operation { format, head }, behind))
 }
 
 // Whether the input is operations and nothing else.
+// `crc_replay`, `heads_replay` and `replay` each have this loop and one that answers: one for all would take a closure with clauses on what it leaves, and be no plainer.
 fn is_well_formed(input: &[u8]) -> bool {
     let mut rest = input;
     while let Some((_, behind)) = first_of(rest) {
@@ -69,6 +74,7 @@ fn answer_all(rt: &impl Print, input: &[u8]) -> io::Result<()> {
 }
 
 fn main(rt: HostRuntime) -> io::Result<()> {
+    // Two lines of the library's, in each program: a crate for them would be no plainer.
     let mut input = Vec::new(rt.alloc());
     rt.reader().take(65536).read_to_end(&mut input)?;
     if input.len() <= INPUT_MOST && is_well_formed(&input) {

@@ -1,6 +1,6 @@
 -- Laws of decimal text and of lines: the fewest digits are the text, and a line grows by one number.
 use Prim.Native.Nat.{ℕ, zero, suc, ◌+◌, ◌*◌, ◌-◌, ◌/◌, ◌%◌, ◌^◌, ◌≤◌, ◌<◌}
-use mathlib.Core.Path.{◌≡◌, sym, ap, ◌∙◌}
+use mathlib.Core.Path.{◌≡◌, sym, ap}
 use mathlib.Core.List.{List, [], ◌∷◌, ◌++◌, append_assoc, append-nil}
 use lib.ListN.{length, take, get_or}
 use lib.Seq.{take-suc}
@@ -51,8 +51,3 @@ spaced-more (m ∷ ns) n = rw (spaced-more ns n) (ap (λ (l : List ℕ). 32 ∷ 
 
 pub spaced_next : (ns : List ℕ) (i : ℕ) → i < length ns → spaced (take (i + 1) ns) ≡ spaced (take i ns) ++ 32 ∷ decimal_of (get_or ns i 0)
 spaced_next ns i h = rw (add-one, take-suc ns i 0 h) (spaced-more (take i ns) (get_or ns i 0))
-
--- ---- the line of a value, where it is known which value
-
-pub told : {A : Type 0} (text : A → List ℕ) (x y : A) (t : List ℕ) → x ≡ y → t ≡ text y → t ≡ text x
-told text x y t e h = h ∙ ap text (sym e)

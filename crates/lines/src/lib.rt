@@ -10,11 +10,11 @@ ghost use Rattle.io.specs.Counts.{IsPrefixLen};
 ghost use Rattle.lines.specs.Line.{decimal_of, line_of, text_of};
 
 use arrayvec::ArrayVec;
-pub use output::print;
+pub use output::{print, say};
 pub use records::{object, section};
 pub use refusals::{number, refusal};
 
-// What a line says. Its numbers lie in the line itself, without a heap: no line has more than seven.
+// What a line says. Its numbers lie in the line itself, so that to make one can't fail for want of memory: no line has more than seven.
 #[derive(Drop)]
 pub struct Line {
     pub letter: u8,

@@ -3,9 +3,17 @@ use crate::{Line, put};
 use std::io;
 use std::io::Write;
 
-// Writes the line's text. No clause says so: the library's contracts name no byte of standard output.
+// Writes the line's text, byte for byte (`Display` would write a letter above 127 as two). No clause says so: the library's contracts name no byte of standard output.
 pub fn print(rt: &impl Print, line: Line) -> io::Result<()> {
     let mut out = [0u8; 160];
     let n = put(line, &mut out);
     io::writer(rt).write_all(&out[..n])
+}
+
+// Writes the line, if there is one.
+pub fn say(rt: &impl Print, line: Option<Line>) -> io::Result<()> {
+    match line {
+        Some(line) => print(rt, line),
+        None => Ok(()),
+    }
 }

@@ -21,7 +21,7 @@ const MARK: ObjectRecord = ObjectRecord {
     type_code: 3,
 };
 
-// What the walk answered, and the list behind it.
+// What the walk answered, and the list behind it: an array, so that `fill` can't fail for want of memory.
 #[derive(Clone, Copy)]
 pub struct Listed {
     pub walked: Walked,

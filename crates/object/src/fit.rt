@@ -8,26 +8,22 @@ use crate::{FARTHEST, may_start};
 use streaming::FlatWalker;
 
 // Whether an entry of the chunk is whole, and led here.
-#[tactic(auto, using(header::proofs::Bounds::map_end_below))]
+#[tactic(auto, unfolding(crate::specs::Fit::behind_entry), using(header::proofs::Bounds::map_end_below))]
 fn behind_entry(s: FlatWalker) -> bool
     requires { InChunk s.header s.map }
-    ensures { (result ≡ behind_entry s) × (result ≡ true → s.object < 2 ^ 63) }
+    ensures { result ≡ behind_entry s }
 {
     let h = s.header;
     let m = s.map;
     let first = m.chunk + 2;
     let end = m.chunk + m.len as u64;
-    if FARTHEST < s.object {
-        return false;
-    }
     ((first < m.at) & (m.at <= end))
         & ((m.field == 0) & (m.shift == 0) & (m.mc == 0))
-        & ((s.object == m.loc) & may_start(h, s.object))
+        & ((s.object == m.loc) & (s.object <= FARTHEST) & may_start(h, s.object))
 }
 
 // How far the object is: in its size words, or behind them with a size that fits the source.
 fn object_done(s: FlatWalker) -> bool
-    requires { s.object < 2 ^ 63 }
     ensures { result ≡ object_done s }
 {
     let h = s.header;
@@ -38,10 +34,11 @@ fn object_done(s: FlatWalker) -> bool
     }
     let len = s.ms_len as u64;
     let size = s.size as u64;
+    let Some(end) = s.object.checked_add(len + size + 2) else {
+        return false;
+    };
     ((1 <= s.words) & (s.words <= 2) & (len == two) & (0 < size))
-        & (may_end(h, s.object, s.object + len + size + 2)
-            & (len <= done)
-            & (done < len + size + 2))
+        & (may_end(h, s.object, end) & (len <= done) & (done < len + size + 2))
 }
 
 // The Rust's own test of a saved state.

@@ -139,19 +139,17 @@ impl Object {
 // Whether an object may start at a location: behind the header, two bytes inside the source, and not in the map.
 #[tactic(auto, unfolding(rules::specs::Object::may_start))]
 pub fn may_start(h: FlatHeader, location: u64) -> bool
-    requires { location < 2 ^ 63 }
     ensures { result ≡ may_start h location }
 {
     let from = map_start(h);
     let end = map_end(h);
     (header_end(h) <= location)
-        & (location + 2 <= h.length)
+        & (2 <= h.length && location <= h.length - 2)
         & !((from <= location) & (location < end))
 }
 
 // An object is entered at once: a location where none may start is answered by the call that brings it.
 pub fn enter_object(s: FlatWalker, location: u64) -> Fed
-    requires { location < 2 ^ 63 }
     ensures { result ≡ enter_object s location }
 {
     let h = s.header;

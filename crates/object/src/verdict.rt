@@ -56,9 +56,9 @@ pub fn judge_head(
         });
     }
     Ok(ObjectRecord {
-        handle: handle,
-        offset: offset,
-        size: size,
+        handle,
+        offset,
+        size,
         type_code: o.type_code,
     })
 }

@@ -1,4 +1,4 @@
-// Bytes: the numbers that they make, lowest byte first or highest byte first; an array of them out of a slice; how long a thing is that counts its bytes; whether two slices are the same; and copies into a slice.
+// Bytes: the numbers that they make, lowest byte first or highest byte first; an array of them out of a slice; how long a thing is that counts its bytes; whether two slices are the same; and copies into a slice. The library's methods, said in the definitions' words, on which the contracts above stand.
 #![tactic(auto)]
 
 ghost use Rattle.std.specs.Prelude.{◌≡◌, [], ◌∷◌, ◌+◌, ◌≤◌, ◌<◌, ◌^◌, min, length, take, drop, IfSome};

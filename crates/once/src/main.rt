@@ -3,20 +3,13 @@
 
 ghost use Rattle.std.specs.Prelude.{◌≤◌};
 
-use lines::{Line, print};
+use lines::{Line, print, say, section};
 use listing::{Listed, PLACES};
 use std::io;
 use std::io::Read;
-use streaming::{FlatHeader, ObjectRecord, SectionRecord, StreamError};
+use streaming::{FlatHeader, ObjectRecord, StreamError};
 
 // A line that could not be written stops nothing: the lines behind it are tried all the same, and the first error is answered in the end.
-fn tell_section(rt: &impl Print, section: Option<SectionRecord>) -> io::Result<()> {
-    match section {
-        Some(r) => print(rt, lines::section(r)),
-        None => Ok(()),
-    }
-}
-
 fn tell_objects(rt: &impl Print, objects: &[ObjectRecord]) -> io::Result<()> {
     let mut written = Ok(());
     for r in objects {
@@ -53,8 +46,8 @@ fn tell(rt: &impl Print, h: FlatHeader, src: &[u8], places: usize) -> io::Result
     }
     let begun = print(rt, Line::new(b'L', &[places as u64]));
     let Listed { walked, list } = listing::fill(h, src, places);
-    let vars = tell_section(rt, walked.vars);
-    let classes = tell_section(rt, walked.classes);
+    let vars = say(rt, walked.vars.map(|r| section(r)));
+    let classes = say(rt, walked.classes.map(|r| section(r)));
     let objects = tell_objects(rt, &list[..walked.count]);
     let end = tell_ending(rt, walked.ending, walked.count);
     let rest = tell_rest(rt, list, walked.count);
@@ -86,6 +79,7 @@ fn answer(rt: &impl Print, input: &[u8]) -> io::Result<()> {
 }
 
 fn main(rt: HostRuntime) -> io::Result<()> {
+    // Two lines of the library's, in each program: a crate for them would be no plainer.
     let mut input = Vec::new(rt.alloc());
     rt.reader().take(65536).read_to_end(&mut input)?;
     answer(&rt, &input)

@@ -30,6 +30,15 @@ little_two src at =
     let z : at + 0 ≡ at = omega arith in
     little_front (drop at src) ∙ rw (get_or-drop at src 0 0, get_or-drop at src 1 0, z)
 
+-- ---- from a place on
+
+-- all that there is
+pub all-behind : (src : List ℕ) (at : ℕ) → take (length src - at) (drop at src) ≡ drop at src
+all-behind src at = take_all (length src - at) (drop at src) (simp length-drop (omega arith))
+
+pub part-on : (src : List ℕ) (at m n : ℕ) → part (drop at src) m n ≡ part src (at + m) n
+part-on src at m n = ap (take n) (drop-drop m at src)
+
 -- ---- the size words
 
 behind_two : (l : List ℕ) → drop 2 (take 4 l) ≡ take 2 (drop 2 l)

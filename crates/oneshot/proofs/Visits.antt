@@ -38,7 +38,7 @@ objects l = objects_of l.records
 
 -- in a chunk whose entries end at a place, with the next chunk at another
 abbrev in_chunk : FlatHeader → (chunk end at handle location : ℕ) → Cursor
-in_chunk h chunk end at handle location = record { r2000 = is_r2000 h; chunk = chunk; at = at; end = end; handle = handle; location = location }
+in_chunk h chunk end at handle location = record { r2000 = is_r2000 h; chunk = chunk; at = at; end = end; last = record { handle = handle; location = location } }
 
 module _ (src : List ℕ) where
   -- ---- the first steps from a cursor give a list of records

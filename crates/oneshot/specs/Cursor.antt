@@ -38,7 +38,7 @@ record_at r2000 src handle location = sized_at r2000 src handle location (size_a
 
 -- nothing is opened yet, and the map's first chunk comes next
 abbrev pub first_cursor : FlatHeader → Cursor
-first_cursor h = record { r2000 = is_r2000 h; chunk = map_start h; at = 0; end = 0; handle = 0; location = 0 }
+first_cursor h = record { r2000 = is_r2000 h; chunk = map_start h; at = 0; end = 0; last = record { handle = 0; location = 0 } }
 
 module _ (src : List ℕ) where
   -- the next chunk, if it lies in the source: handle and location restart at 0
@@ -46,7 +46,7 @@ module _ (src : List ℕ) where
   opened_of c =
       let size = chunk_size src c.chunk in
       when leb (c.chunk + size + 2) (length src) then
-      record { r2000 = c.r2000; chunk = c.chunk + size + 2; at = c.chunk + 2; end = c.chunk + size; handle = 0; location = 0 }
+      record { r2000 = c.r2000; chunk = c.chunk + size + 2; at = c.chunk + 2; end = c.chunk + size; last = record { handle = 0; location = 0 } }
       else c
 
   -- the chunk with the next entry: a new one where the entries of the last are used up
@@ -54,13 +54,13 @@ module _ (src : List ℕ) where
   in_hand c = when eqb c.at c.end then opened_of c else c
 
   abbrev pub next_entry : Cursor → Entry
-  next_entry c = entry_in c.handle c.location (part src c.at (c.end - c.at))
+  next_entry c = entry_in c.last.handle c.last.location (part src c.at (c.end - c.at))
 
   -- an entry leads to its object and to the entry behind it; a refused one nowhere
   unfoldable pub visit_of : Cursor → Entry → Visit
   visit_of c (leads bytes handle location) = record {
     object = record_at c.r2000 src handle location;
-    next = record { r2000 = c.r2000; chunk = c.chunk; at = c.at + bytes; end = c.end; handle = handle; location = location };
+    next = record { r2000 = c.r2000; chunk = c.chunk; at = c.at + bytes; end = c.end; last = record { handle = handle; location = location } };
   }
   visit_of c (refused bytes) = record { object = blank; next = c }
 

@@ -9,6 +9,7 @@ ghost use Rattle.oneshot.specs.OneShot.{with_room, list_after};
 use header::{is_r2000, map_start};
 use steps::{Cursor, next_of};
 use streaming::{FlatHeader, ObjectRecord, StreamError};
+use survey::entries::Named;
 use survey::{Walked, survey};
 
 mod objects;
@@ -46,8 +47,10 @@ fn first_of(h: FlatHeader) -> Cursor
         chunk: map_start(h) as usize,
         at: 0,
         end: 0,
-        handle: 0,
-        location: 0,
+        last: Named {
+            handle: 0,
+            location: 0,
+        },
     }
 }
 

@@ -8,6 +8,7 @@ ghost use Rattle.oneshot.specs.Cursor.{blank, record_of_head, record_at};
 
 use records::{Opening, RecordFormat, prologue};
 use streaming::ObjectRecord;
+use survey::entries::Named;
 
 // The record where there is no object. It is no None, since the definitions that `walk` is proved by (record_at, step_of) answer a record at every step.
 pub fn blank() -> ObjectRecord
@@ -46,35 +47,36 @@ fn head_at(src: &[u8], r2000: bool, at: usize, size: u32) -> Option<Opening>
 }
 
 // The record of an object whose data begins so.
-fn record_of_head(handle: u64, location: u64, size: u32, head: Option<Opening>) -> ObjectRecord
-    ensures { result ≡ record_of_head handle location size head }
+fn record_of_head(to: Named, size: u32, head: Option<Opening>) -> ObjectRecord
+    ensures { result ≡ record_of_head to.handle to.location size head }
 {
     match head {
         None => blank(),
         Some(o) => ObjectRecord {
-            handle,
-            offset: location,
+            handle: to.handle,
+            offset: to.location,
             size,
             type_code: o.type_code,
         },
     }
 }
 
-// The record of the object at a location.
-pub fn record_at(src: &[u8], r2000: bool, handle: u64, location: u64) -> ObjectRecord
-    requires { location < 2 ^ 63 }
-    ensures { result ≡ record_at r2000 src.now handle location }
+// The record of an object that the map names, of the bytes from its location on.
+pub fn record_at(src: &[u8], r2000: bool, to: Named) -> ObjectRecord
+    ensures { result ≡ record_at r2000 src.now to.handle to.location }
 {
-    let at = location as usize;
-    let first = word_at(src, at);
+    let Some(object) = src.get(to.location as usize..) else {
+        return blank();
+    };
+    let first = word_at(object, 0);
     if first < 0x8000 {
         let size = u32::from(first);
-        return record_of_head(handle, location, size, head_at(src, r2000, at + 2, size));
+        return record_of_head(to, size, head_at(object, r2000, 2, size));
     }
-    let second = word_at(src, at + 2);
+    let second = word_at(object, 2);
     if second < 0x8000 {
         let size = u32::from(first % 0x8000) + 0x8000 * u32::from(second);
-        return record_of_head(handle, location, size, head_at(src, r2000, at + 4, size));
+        return record_of_head(to, size, head_at(object, r2000, 4, size));
     }
     blank()
 }

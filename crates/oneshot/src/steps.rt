@@ -4,18 +4,18 @@ ghost use Rattle.oneshot.specs.Cursor.{opened_of, in_hand, step_of};
 
 use crate::objects::{blank, record_at};
 use streaming::ObjectRecord;
-use survey::entries::entry_at;
+use survey::entries::{Named, entry_at};
 use survey::sums::be16_at;
 
-// Where the filling stands in the map: the place of the next chunk, the entries that are left of the one in hand, and what the last entry led to.
+// Where the filling stands in the map: the place of the next chunk, the entries that are left of the one in hand, and the object that the last entry led to.
+// Whether it is R2000 stays a bool, as the definitions (`first_cursor`, `record_at`) have it.
 #[derive(Clone, Copy)]
 pub struct Cursor {
     pub r2000: bool,
     pub chunk: usize,
     pub at: usize,
     pub end: usize,
-    pub handle: u64,
-    pub location: u64,
+    pub last: Named,
 }
 
 // One step: a record, and where the next step stands.
@@ -42,8 +42,10 @@ fn opened(src: &[u8], c: Cursor) -> Cursor
         chunk: chunk + size + 2,
         at: chunk + 2,
         end: chunk + size,
-        handle: 0,
-        location: 0,
+        last: Named {
+            handle: 0,
+            location: 0,
+        },
         ..c
     }
 }
@@ -60,17 +62,15 @@ fn in_hand(src: &[u8], c: Cursor) -> Cursor
 
 // One step of the filling. Where no entry leads on it stays where it is.
 pub fn next_of(src: &[u8], c: Cursor) -> Visit
-    requires { c.location < 2 ^ 63 }
     ensures { result ≡ step_of src.now c }
 {
     let c = in_hand(src, c);
-    match entry_at(src, c.at, c.end, c.handle, c.location) {
+    match entry_at(src, c.at, c.end, c.last) {
         Ok(entry) => Visit {
-            object: record_at(src, c.r2000, entry.handle, entry.location),
+            object: record_at(src, c.r2000, entry.to),
             next: Cursor {
                 at: c.at + entry.bytes,
-                handle: entry.handle,
-                location: entry.location,
+                last: entry.to,
                 ..c
             },
         },

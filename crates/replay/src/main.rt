@@ -26,6 +26,7 @@ fn answers(rt: &impl Print, input: &[u8]) -> io::Result<()> {
 }
 
 fn main(rt: HostRuntime) -> io::Result<()> {
+    // Two lines of the library's, in each program: a crate for them would be no plainer.
     let mut input = Vec::new(rt.alloc());
     rt.reader().take(65536).read_to_end(&mut input)?;
     if input.len() <= INPUT_MOST && operations::whole(&input) {

@@ -27,6 +27,7 @@ pub fn size(s: &[u8]) -> Option<usize>
 }
 
 // Whether the input is operations and nothing else.
+// `crc_replay`, `heads_replay` and `replay` each have this loop and one that answers: one for all would take a closure with clauses on what it leaves, and be no plainer.
 #[tactic(auto, using(crate::proofs::Whole::left))]
 pub fn whole(s: &[u8]) -> bool
     ensures { result ≡ is_whole (length s.now) s.now }

@@ -6,7 +6,7 @@ ghost use Rattle.section.specs.Section.{part_of, section_of};
 use header::locator;
 use streaming::{FlatWalker, Locator, Part, Stage};
 
-// The part of a stage; only the first two stages are sections.
+// The part of a stage; only the first two stages are sections. Its definition answers a part for the others too, so no Option stands here.
 pub fn part_of(g: Stage) -> Part
     ensures { result ≡ part_of g }
 {

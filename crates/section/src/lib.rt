@@ -18,7 +18,8 @@ mod settle;
 // The sentinels, the size and the checksum.
 const FRAME: u64 = 38;
 
-// Where the demand ends: the sentinel, the size, the data, the checksum, the sentinel.
+// Where the demand ends: the sentinel, the size, the data, the checksum, the sentinel. `feed` makes the same tests, as both definitions do, in their order:
+// an enum of the field in hand would be one account more.
 fn section_end(done: u32, size: u32) -> u64
     ensures { result ≡ section_end done size }
 {

@@ -1,4 +1,5 @@
 // The four sentinels: by part, the one at the start and the one at the end (§9, §10.1).
+// A part is a number here: the table of tables is document 01's named form, picked by part and end.
 ghost use Rattle.std.specs.Prelude.{◌≡◌, ◌+◌, ◌<◌, ◌≤◌, length};
 ghost use Rattle.account.specs.Statement.{part as span};
 ghost use Rattle.octets.specs.Octets.{same};

@@ -15,10 +15,7 @@ fn enter_next(g: Stage, s: FlatWalker) -> FlatWalker
     match g {
         Stage::Vars => enter_section(s, Stage::Classes),
         Stage::Classes => enter_chunk(s, map_start(s.header)),
-        Stage::Chunk => s,
-        Stage::Entry => s,
-        Stage::Object => s,
-        Stage::Done => s,
+        Stage::Chunk | Stage::Entry | Stage::Object | Stage::Done => s,
     }
 }
 

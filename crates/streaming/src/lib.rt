@@ -18,7 +18,14 @@ pub struct Locator {
     pub size: u32,
 }
 
-// The verified file header that a walk starts from. Only the counted locators have a say.
+// What stands for a locator that is missing.
+pub const NO_LOCATOR: Locator = Locator {
+    number: 0,
+    offset: 0,
+    size: 0,
+};
+
+// The verified file header that a walk starts from. Only the counted locators have a say; a count above 6 is what Start refuses by 1, so it stands beside.
 #[derive(Clone, Copy)]
 pub struct FlatHeader {
     pub magic: [u8; 6],
@@ -83,6 +90,7 @@ pub enum Step {
 }
 
 // A fault of the drawing. It is terminal: every later call answers it again.
+// A part stays a number, as in the Rust: the state holds a fault, and the calls of `flat` take a saved state with any number.
 #[derive(Clone, Copy)]
 pub enum Fault {
     SectionSize(u8),
@@ -141,7 +149,7 @@ pub enum Stage {
     Done,
 }
 
-// The object map's position, kept while objects are visited.
+// The object map's position, kept while objects are visited. `field` stays a number: `fit` and `consistent` are asked about any saved state.
 #[derive(Clone, Copy, PartialEq, Eq)]
 pub struct MapCursor {
     pub chunk: u64,
@@ -155,6 +163,8 @@ pub struct MapCursor {
 }
 
 // The state of a walk. It goes into a call by value and comes back in the call's answer.
+// `field` and `head` stay arrays, filled as far as `done` says, and an `ms_len` of 0 says that the size is not known: they are a saved state's, and `fit`
+// and `consistent` take any.
 #[derive(Clone, Copy)]
 pub struct FlatWalker {
     pub header: FlatHeader,
@@ -180,6 +190,7 @@ pub struct Fed {
 }
 
 // The unit in hand: its stage, how much of it is done, its size, its checksum so far and the bytes of a partial number.
+// They stay loose here and in `go_on`: docs/DECISIONS.md names both, and they have the arguments of their definitions.
 pub fn in_unit(
     s: FlatWalker,
     stage: Stage,
@@ -191,11 +202,11 @@ pub fn in_unit(
     ensures { result ≡ in_unit s stage done size crc field }
 {
     FlatWalker {
-        stage: stage,
-        done: done,
+        stage,
+        done,
         size: size,
-        crc: crc,
-        field: field,
+        crc,
+        field,
         ..s
     }
 }
@@ -205,10 +216,10 @@ pub fn with_object(s: FlatWalker, head: [u8; 16], object: u64, ms_len: u8, words
     ensures { result ≡ with_object s head object ms_len words }
 {
     FlatWalker {
-        head: head,
-        object: object,
-        ms_len: ms_len,
-        words: words,
+        head,
+        object,
+        ms_len,
+        words,
         ..s
     }
 }

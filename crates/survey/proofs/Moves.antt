@@ -64,7 +64,7 @@ module _ (n m handle location value : ℕ) (back : Bool) (bytes : List ℕ) (w :
   located = rw (w.read, length-take-le m bytes w.inside, is-value, is-back)
 
   pub location-leads : (to : ℕ) → moved_to (moved location (signed back value)) ≡ Some to
-      → Ok (record { bytes = n + m; handle = handle; location = to }) ≡ entry_read (with_location n handle location bytes (delta_in bytes))
+      → Ok (record { bytes = n + m; to = record { handle = handle; location = to } }) ≡ entry_read (with_location n handle location bytes (delta_in bytes))
   unfolding entry_at
   location-leads to e = rw (located, moved-some (moved location (signed back value)) to e)
 

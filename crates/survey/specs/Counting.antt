@@ -1,5 +1,5 @@
 -- What the walk of the map comes to, and what is left of it at an entry of a chunk.
-use Rattle.std.specs.Prelude.{ℕ, ◌+◌, ◌-◌, ◌^◌, ◌≤◌, ◌<◌, List, length, Result, Ok, Err}
+use Rattle.std.specs.Prelude.{ℕ, ◌+◌, ◌-◌, ◌≤◌, ◌<◌, List, length, Result, Ok, Err}
 use Rattle.streaming.specs.Answers.{Asked}
 use Rattle.streaming.specs.declared.FlatHeader.{FlatHeader}
 use Rattle.account.specs.Statement.{part, ended_by}
@@ -24,7 +24,7 @@ module _ (h : FlatHeader) (src : List ℕ) where
 
   -- from an entry on, in a chunk whose entries end there
   unfoldable pub entries_on : (end : ℕ) → Cursor → Listing → Listing
-  entries_on end c rest = entries_then h src (entries_from (end - c.at) c.handle c.location (part src c.at (end - c.at))) c.at rest
+  entries_on end c rest = entries_then h src (entries_from (end - c.at) c.last.handle c.last.location (part src c.at (end - c.at))) c.at rest
 
   -- an object more, and the walk goes on; or it ends
   abbrev pub visit_goes : (end : ℕ) → Result Cursor Asked → Listing → Counted
@@ -33,5 +33,5 @@ module _ (h : FlatHeader) (src : List ℕ) where
 
 -- the next entry stands behind this one, in the chunk
 abbrev pub GoesAhead : Cursor → (end : ℕ) → Result Cursor Asked → Type 0
-GoesAhead c end (Ok next) = (c.at < next.at) × (next.at ≤ end) × (next.location < 2 ^ 63)
+GoesAhead c end (Ok next) = (c.at < next.at) × (next.at ≤ end)
 GoesAhead c end (Err q) = Unit {0}

@@ -6,7 +6,7 @@ use Rattle.survey.specs.declared.entries.Leads.{Leads}
 
 -- the rules' entry: where it leads, or how many bytes it has up to the one that is refused
 abbrev pub entry_read : Entry → Result Leads ℕ
-entry_read (leads bytes handle location) = Ok (record { bytes = bytes; handle = handle; location = location })
+entry_read (leads bytes handle location) = Ok (record { bytes = bytes; to = record { handle = handle; location = location } })
 entry_read (refused bytes) = Err bytes
 
 -- how many bytes a delta has, if it is whole

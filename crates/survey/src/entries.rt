@@ -6,12 +6,18 @@ ghost use Rattle.survey.specs.Entries.{entry_read, groups_read, moved_to};
 
 use object::FARTHEST;
 
+// An object as the map names it.
+#[derive(Clone, Copy, PartialEq, Eq)]
+pub struct Named {
+    pub handle: u64,
+    pub location: u64,
+}
+
 // Where an entry of so many bytes leads.
 #[derive(Clone, Copy, PartialEq, Eq)]
 pub struct Leads {
     pub bytes: usize,
-    pub handle: u64,
-    pub location: u64,
+    pub to: Named,
 }
 
 // The place of the first byte whose high bit is clear, if that is not the tenth or a later one.
@@ -84,40 +90,33 @@ fn location_in(bytes: &[u8], n: usize, handle: u64, location: u64) -> Result<Lea
     let m = groups_in(bytes).ok_or(n + bytes.len().min(10))?;
     let value = location_delta(&bytes[..m]);
     let back = is_back(&bytes[..m]);
-    let to = moved_by(back, location, value).ok_or(n + m)?;
+    let location = moved_by(back, location, value).ok_or(n + m)?;
     Ok(Leads {
         bytes: n + m,
-        handle,
-        location: to,
+        to: Named { handle, location },
     })
 }
 
-// The entry that some bytes begin with, by the handle and the location before it.
-fn entry_in(bytes: &[u8], handle: u64, location: u64) -> Result<Leads, usize>
-    ensures { result ≡ entry_read (entry_in handle location bytes.now) }
+// The entry that some bytes begin with, by the object that the last one led to.
+fn entry_in(bytes: &[u8], last: Named) -> Result<Leads, usize>
+    ensures { result ≡ entry_read (entry_in last.handle last.location bytes.now) }
 {
     let n = groups_in(bytes).ok_or(bytes.len().min(10))?;
     let value = handle_delta(&bytes[..n]);
     if bytes.len() <= n {
         return Err(n);
     }
-    let to = handle.checked_add(value).ok_or(n)?;
-    location_in(&bytes[n..], n, to, location)
+    let handle = last.handle.checked_add(value).ok_or(n)?;
+    location_in(&bytes[n..], n, handle, last.location)
 }
 
-// The entry of a chunk at a place, by the handle and the location before it: where it leads, or the number of its byte that is refused. The chunk's entries end at `end`, or where the source does.
-pub fn entry_at(
-    src: &[u8],
-    at: usize,
-    end: usize,
-    handle: u64,
-    location: u64,
-) -> Result<Leads, usize>
-    ensures { result ≡ entry_read (entry_in handle location (part src.now at (end - at))) }
+// The entry of a chunk at a place, by the object that the last one led to: where it leads, or the number of its byte that is refused. The chunk's entries end at `end`, or where the source does.
+pub fn entry_at(src: &[u8], at: usize, end: usize, last: Named) -> Result<Leads, usize>
+    ensures { result ≡ entry_read (entry_in last.handle last.location (part src.now at (end - at))) }
 {
     let stop = end.min(src.len());
     if stop <= at {
         return Err(0);
     }
-    entry_in(&src[at..stop], handle, location)
+    entry_in(&src[at..stop], last)
 }

@@ -26,5 +26,5 @@ pub fn sum_at(src: &[u8], at: usize, n: usize) -> u16
     ensures { result ≡ checksum (part src.now at n) }
 {
     let end = at + n;
-    crc::crc8(0xc0c1, &src[at..end])
+    crc::crc8(chunk::SEED, &src[at..end])
 }

@@ -6,17 +6,16 @@ ghost use Rattle.survey.specs.Counting.{counted, visit_goes, entries_on, GoesAhe
 
 use crate::Ending;
 use crate::chunks::broken;
-use crate::entries::entry_at;
+use crate::entries::{Named, entry_at};
 use crate::source::Source;
 use flat::ended_by;
 use streaming::{Fault, StreamError};
 
-// Where the walk stands in a chunk: its next byte, and the handle and the location so far.
+// Where the walk stands in a chunk: its next byte, and the object that the last entry led to.
 #[derive(Clone, Copy, PartialEq, Eq)]
 pub struct Cursor {
     pub at: usize,
-    pub handle: u64,
-    pub location: u64,
+    pub last: Named,
 }
 
 // What the walk of the map comes to: the number of its objects, and its ending.
@@ -29,24 +28,24 @@ pub struct Counted {
 impl<'a> Source<'a> {
     // The next entry of a chunk whose entries end there, and its object: where the walk goes on behind them.
     fn next_of(&self, end: usize, c: Cursor) -> Result<Cursor, Ending>
-        requires { (c.at < end) × (end ≤ length self.now.bytes.now) × (c.location < 2 ^ 63) }
+        requires { (c.at < end) × (end ≤ length self.now.bytes.now) }
         ensures goes { (rest : Listing) → counted (entries_on self.now.header self.now.bytes.now end c rest) ≡ visit_goes self.now.header self.now.bytes.now end result rest }
         ensures ahead { GoesAhead c end result }
     {
-        match entry_at(self.bytes, c.at, end, c.handle, c.location) {
+        match entry_at(self.bytes, c.at, end, c.last) {
             Err(n) => Err(broken(Fault::MapEntry((c.at + n - 1) as u64))),
             Ok(entry) => {
-                self.object_at(entry.handle, entry.location)?;
+                self.object_at(entry.to)?;
                 Ok(Cursor {
                     at: c.at + entry.bytes,
-                    handle: entry.handle,
-                    location: entry.location,
+                    last: entry.to,
                 })
             }
         }
     }
 
     // Chunk by chunk, and in each entry by entry, up to a fault, a stall or the final chunk. In each chunk handle and location restart at 0.
+    // Nested loops, left by a label: document 01's named form.
     pub fn walk_map(&self) -> Counted
         ensures { result ≡ counted (chunks_from self.now.header self.now.bytes.now (map_size self.now.header) (map_start self.now.header)) }
     {
@@ -60,8 +59,10 @@ impl<'a> Source<'a> {
             let end = chunk + size;
             let mut c = Cursor {
                 at: chunk + 2,
-                handle: 0,
-                location: 0,
+                last: Named {
+                    handle: 0,
+                    location: 0,
+                },
             };
             while c.at < end {
                 c = match self.next_of(end, c) {

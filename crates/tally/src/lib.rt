@@ -100,12 +100,10 @@ fn committed(t: Tally, handle: u64, len: u64) -> Tally
     ensures { result ≡ behind t as_framing len (handle ∷ []) }
 {
     Tally {
-        bytes: t.bytes.saturating_add(len),
-        framing: t.framing.saturating_add(len),
         objects: t.objects.saturating_add(1),
         repeats: t.repeats.saturating_add(repeated(t.last, handle)),
         last: Some(handle),
-        ..t
+        ..framed(t, len)
     }
 }
 

@@ -7,7 +7,9 @@ ghost use Rattle.flat.specs.Flat.{begun_of, feed_of};
 ghost use Rattle.survey.specs.Survey.{survey_of};
 ghost use Rattle.walk_speed.specs.Sums.{size_in, size_of, turn_of, sum_of, locator_at, header_of, last_size, last_of};
 
-use streaming::{Fed, FlatHeader, FlatWalker, Locator, ObjectRecord, Request, Step, StreamError};
+use streaming::{
+    Fed, FlatHeader, FlatWalker, Locator, NO_LOCATOR, ObjectRecord, Request, Step, StreamError,
+};
 
 // The size of the object that a step commits.
 fn size_in(step: Step) -> u64
@@ -84,14 +86,13 @@ fn header(
 ) -> FlatHeader
     ensures { result ≡ header_of bytes vars vars_size classes classes_size map map_size }
 {
-    let none = locator(0, 0, 0);
     let locators = [
         locator(0, vars, vars_size),
         locator(1, classes, classes_size),
         locator(2, map, map_size),
-        none,
-        none,
-        none,
+        NO_LOCATOR,
+        NO_LOCATOR,
+        NO_LOCATOR,
     ];
     FlatHeader {
         magic: *b"AC1015",
@@ -101,7 +102,7 @@ fn header(
     }
 }
 
-// It is walked by calls.
+// It is walked by calls. The interface for callers in C and Rust has these parameters, here and in the two exports below.
 #[unsafe(no_mangle)]
 pub extern "C" fn walk_once(
     source: &[u8],
@@ -156,7 +157,7 @@ pub extern "C" fn survey_once(
     survey::survey(h, source).count as u64
 }
 
-// The size of the last of so many records, if there is one.
+// The size of the last of so many records, or 0: what is exported answers a number.
 #[tactic(auto, unfolding(crate::specs::Sums::last_size))]
 fn last_size(list: &[ObjectRecord; 4096], count: usize) -> u64
     ensures { result ≡ last_size list.now count }

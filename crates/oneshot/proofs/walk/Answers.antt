@@ -8,13 +8,9 @@ use Rattle.survey.specs.Survey.{survey_of}
 use Rattle.survey.specs.declared.Walked.{Walked}
 use Rattle.oneshot.specs.Cursor.{first_cursor, record_of}
 use Rattle.oneshot.specs.OneShot.{with_room}
-use Rattle.oneshot.proofs.Near.{near}
 use Rattle.oneshot.proofs.Over.{over_take}
 use Rattle.oneshot.proofs.Filling.{filled}
 use Rattle.oneshot.proofs.walk.Goals as goal
-
-pub next_of-v-requires : goal.next_of-v-requires
-next_of-v-requires c = rw c.loop-place.invariant.cursor_is (near c.args.src.now c.args.h c.loop-place.place-index)
 
 pub returns : goal.returns
 returns c =

@@ -9,10 +9,10 @@ returns-then-not-in_chunk c = rw (← c.in_chunk.ensures.0, c.if-not-in_chunk.tr
 pub returns-then-behind_entry : goal.returns-then-behind_entry
 unfolding object_consistent
 returns-then-behind_entry c =
-    rw (← c.in_chunk.ensures.0, c.if-not-in_chunk.false, ← c.behind_entry.ensures.0, c.if-behind_entry.true)
+    rw (← c.in_chunk.ensures.0, c.if-not-in_chunk.false, ← c.behind_entry.ensures, c.if-behind_entry.true)
     c.object_done.ensures
 
 pub returns-else-behind_entry : goal.returns-else-behind_entry
 unfolding object_consistent
 returns-else-behind_entry c =
-    rw (← c.in_chunk.ensures.0, c.if-not-in_chunk.false, ← c.behind_entry.ensures.0, c.if-behind_entry.false)
+    rw (← c.in_chunk.ensures.0, c.if-not-in_chunk.false, ← c.behind_entry.ensures, c.if-behind_entry.false)

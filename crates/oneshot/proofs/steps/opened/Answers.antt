@@ -17,7 +17,7 @@ module _ (src : List ℕ) (c : Cursor) where
   shut h = rw (lt-leb _ _ h)
 
   opens : (size : ℕ) → size ≡ chunk_size src c.chunk → c.chunk + size + 2 ≤ length src
-      → record { r2000 = c.r2000; chunk = c.chunk + size + 2; at = c.chunk + 2; end = c.chunk + size; handle = 0; location = 0 } ≡ opened_of src c
+      → record { r2000 = c.r2000; chunk = c.chunk + size + 2; at = c.chunk + 2; end = c.chunk + size; last = record { handle = 0; location = 0 } } ≡ opened_of src c
   unfolding opened_of when◌then◌else◌
   opens size e h = rw (← e, le-leb _ _ h)
 

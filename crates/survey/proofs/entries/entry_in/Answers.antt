@@ -25,19 +25,19 @@ returns-then-bytes-n c =
     let whole = whole_read c.args.bytes.now c.in_ok-n.n (sym c.groups_in.ensures.read ∙ c.in_ok-n.ensures.ok_part) in
     handle-ends _ _ _ _ c.args.bytes.now whole c.handle_delta-value.ensures.0 c.if-bytes-n.true
 
-pub returns-in_err-to : goal.returns-in_err-to
-returns-in_err-to c =
+pub returns-in_err-handle : goal.returns-in_err-handle
+returns-in_err-handle c =
     let whole = whole_read c.args.bytes.now c.in_ok-n.n (sym c.groups_in.ensures.read ∙ c.in_ok-n.ensures.ok_part) in
-    let p = err_from_is_err_and c.from_residual-in_err-to.result c.from_residual-in_err-to.ensures.1 in
-    let none = c.in_err-to.ensures.ok_part in
-    let value = rw none at c.in_err-to.ensures.value in
-    let byte : c.in_err-to.field-0.0 ≡ c.in_ok-n.n = cc value in
-    let past : 2 ^ 64 ≤ c.args.handle + c.handle_delta-value.result = let none-fits = rw none at c.checked_add.ensures in omega arith in
+    let p = err_from_is_err_and c.from_residual-in_err-handle.result c.from_residual-in_err-handle.ensures.1 in
+    let none = c.in_err-handle.ensures.ok_part in
+    let value = rw none at c.in_err-handle.ensures.value in
+    let byte : c.in_err-handle.field-0.0 ≡ c.in_ok-n.n = cc value in
+    let past : 2 ^ 64 ≤ c.args.last.handle + c.handle_delta-value.result = let none-fits = rw none at c.checked_add.ensures in omega arith in
     rw (p.1, p.2, byte) (handle_past _ _ _ _ c.args.bytes.now whole c.handle_delta-value.ensures.0 past)
 
 pub returns : goal.returns
 returns c =
     let whole = whole_read c.args.bytes.now c.in_ok-n.n (sym c.groups_in.ensures.read ∙ c.in_ok-n.ensures.ok_part) in
-    let sum = rw c.in_ok-to.ensures.ok_part at c.checked_add.ensures in
-    let l = handle-leads c.in_ok-n.n c.args.handle c.args.location c.handle_delta-value.result c.args.bytes.now whole c.handle_delta-value.ensures.0 (omega arith) (omega (arith, sum.0)) in
+    let sum = rw c.in_ok-handle.ensures.ok_part at c.checked_add.ensures in
+    let l = handle-leads c.in_ok-n.n c.args.last.handle c.args.last.location c.handle_delta-value.result c.args.bytes.now whole c.handle_delta-value.ensures.0 (omega arith) (omega (arith, sum.0)) in
     rw (l, ← sum.1, ← take_all (length c.args.bytes.now - c.in_ok-n.n) (drop c.in_ok-n.n c.args.bytes.now) (simp length-drop (omega arith))) c.location_in.ensures

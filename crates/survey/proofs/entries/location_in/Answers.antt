@@ -19,13 +19,13 @@ returns-in_err-m c =
     let byte : c.in_err-m.field-0.0 ≡ c.args.n + min 10 (length c.args.bytes.now) = omega (arith, at, c.min.ensures) in
     rw (p.1, p.2, unending_read c.args.bytes.now (sym c.groups_in.ensures.read ∙ none), byte)
 
-pub returns-in_err-to : goal.returns-in_err-to
-returns-in_err-to c =
+pub returns-in_err-location : goal.returns-in_err-location
+returns-in_err-location c =
     let whole = whole_read c.args.bytes.now c.in_ok-m.m (sym c.groups_in.ensures.read ∙ c.in_ok-m.ensures.ok_part) in
-    let p = err_from_is_err_and c.from_residual-in_err-to.result c.from_residual-in_err-to.ensures.1 in
-    let none = c.in_err-to.ensures.ok_part in
-    let value = rw none at c.in_err-to.ensures.value in
-    let byte : c.in_err-to.field-0.0 ≡ c.args.n + c.in_ok-m.m = cc value in
+    let p = err_from_is_err_and c.from_residual-in_err-location.result c.from_residual-in_err-location.ensures.1 in
+    let none = c.in_err-location.ensures.ok_part in
+    let value = rw none at c.in_err-location.ensures.value in
+    let byte : c.in_err-location.field-0.0 ≡ c.args.n + c.in_ok-m.m = cc value in
     rw (p.1, p.2, byte) (location_stays _ _ _ _ _ _ c.args.bytes.now whole c.location_delta-value.ensures c.is_back-back.ensures (sym c.moved_by.ensures ∙ none))
 
 pub returns : goal.returns
@@ -33,4 +33,4 @@ returns c =
     let whole = whole_read c.args.bytes.now c.in_ok-m.m (sym c.groups_in.ensures.read ∙ c.in_ok-m.ensures.ok_part) in
     location-leads _ _ _ _ _ _ c.args.bytes.now whole
     c.location_delta-value.ensures c.is_back-back.ensures _
-    (sym c.moved_by.ensures ∙ c.in_ok-to.ensures.ok_part)
+    (sym c.moved_by.ensures ∙ c.in_ok-location.ensures.ok_part)

@@ -10,20 +10,20 @@ use Rattle.survey.proofs.AtLocation.{no_size, no_end, judged, verdict_goes}
 use Rattle.survey.proofs.source.Source.sized_at.Goals as goal
 
 pub returns-then-size-eq0 : goal.returns-then-size-eq0
-returns-then-size-eq0 c = λ rest. no_size c.args.self.now.header c.args.self.now.bytes.now c.args.handle c.args.location c.args.field c.args.size rest c.if-size-eq0.true ∙ ap stop (sym c.broken.ensures)
+returns-then-size-eq0 c = λ rest. no_size c.args.self.now.header c.args.self.now.bytes.now c.args.to.handle c.args.to.location c.args.field c.args.size rest c.if-size-eq0.true ∙ ap stop (sym c.broken.ensures)
 
 pub returns-then-not-may_end : goal.returns-then-not-may_end
 returns-then-not-may_end c =
-    λ rest. no_end c.args.self.now.header c.args.self.now.bytes.now c.args.handle c.args.location c.args.field c.args.size rest (omega arith) (sym c.may_end.ensures ∙ c.if-not-may_end.true) ∙ ap stop (sym c.broken-then-not-may_end.ensures)
+    λ rest. no_end c.args.self.now.header c.args.self.now.bytes.now c.args.to.handle c.args.to.location c.args.field c.args.size rest (omega arith) (sym c.may_end.ensures ∙ c.if-not-may_end.true) ∙ ap stop (sym c.broken-then-not-may_end.ensures)
 
 pub judge_at-requires : goal.judge_at-requires
 judge_at-requires c =
-    let ends : may_end c.args.self.now.header c.args.location (c.args.location + c.args.field + c.args.size + 2) ≡ true = sym c.may_end.ensures ∙ c.if-not-may_end.false in
-    omega (arith, c.args.self.now.whole.whole, end_inside c.args.self.now.header c.args.location _ ends)
+    let ends : may_end c.args.self.now.header c.args.to.location (c.args.to.location + c.args.field + c.args.size + 2) ≡ true = sym c.may_end.ensures ∙ c.if-not-may_end.false in
+    omega (arith, c.args.self.now.whole.whole, end_inside c.args.self.now.header c.args.to.location _ ends)
 
 pub returns : goal.returns
 unfolding verdict_then
 returns c =
-    let ends : may_end c.args.self.now.header c.args.location (c.args.location + c.args.field + c.args.size + 2) ≡ true = sym c.may_end.ensures ∙ c.if-not-may_end.false in
+    let ends : may_end c.args.self.now.header c.args.to.location (c.args.to.location + c.args.field + c.args.size + 2) ≡ true = sym c.may_end.ensures ∙ c.if-not-may_end.false in
     λ rest.
-    judged c.args.self.now.header c.args.self.now.bytes.now c.args.handle c.args.location c.args.field c.args.size rest (omega arith) ends _ c.judge_at.ensures ∙ verdict_goes c.judge_at.result c.map_err.result rest c.map_err.ensures.cases
+    judged c.args.self.now.header c.args.self.now.bytes.now c.args.to.handle c.args.to.location c.args.field c.args.size rest (omega arith) ends _ c.judge_at.ensures ∙ verdict_goes c.judge_at.result c.map_err.result rest c.map_err.ensures.cases

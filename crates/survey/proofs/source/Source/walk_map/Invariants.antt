@@ -13,7 +13,7 @@ abbrev SoFar : FlatHeader → (src : List ℕ) (count : ℕ) → Listing → Typ
 SoFar h src count left = more count (counted left) ≡ counted (chunks_on h src (map_start h))
 
 abbrev pub invariant-loop-c : goal.invariant-loop-c
-invariant-loop-c l = (l.count ≤ l.c.at) × (l.c.at ≤ l.end) × (l.c.location < 2 ^ 63) × SoFar l.self.header l.self.bytes.now l.count (entries_on l.self.header l.self.bytes.now l.end l.c (chunks_on l.self.header l.self.bytes.now (l.end + 2)))
+invariant-loop-c l = (l.count ≤ l.c.at) × (l.c.at ≤ l.end) × SoFar l.self.header l.self.bytes.now l.count (entries_on l.self.header l.self.bytes.now l.end l.c (chunks_on l.self.header l.self.bytes.now (l.end + 2)))
 
 abbrev pub decreases-loop-c : goal.decreases-loop-c
 decreases-loop-c l = l.end - l.c.at
