@@ -87,7 +87,7 @@ fn is_operations(s: &[u8]) -> bool {
     rest.is_empty()
 }
 
-// A line for each operation.
+// A line for each operation. The lent path, letter `L`, asks for the table's rule.
 fn print_answers(rt: &impl Print, rows: &[[u16; 256]; 8], s: &[u8]) -> io::Result<()>
     requires { Table rows.now }
 {

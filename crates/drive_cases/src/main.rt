@@ -16,6 +16,7 @@ fn size(s: &[u8]) -> Option<usize>
     octets::counted_size(s, 0)
 }
 
+// A loop of its own: one for all programs that take operations off a list would take a closure, and be no plainer.
 fn cases(rt: &impl Print, list: &[u8]) -> io::Result<()> {
     let mut rest = list;
     while let Some(n) = size(rest) {

@@ -28,7 +28,7 @@ pub fn why(e: Result<(), StreamError>) -> Option<Line>
     }
 }
 
-// Document 01's number of an ending: 0 for a walk that finished.
+// Document 01's number of an ending: 0 for a walk that finished. A match, as in `why`.
 fn ending(e: Result<(), StreamError>) -> u64
     ensures { result ≡ ending_number e }
 {

@@ -45,7 +45,7 @@ impl Cuts {
         self.sizes.as_slice().get(i).copied()
     }
 
-    // The cuts of a section, unless one of them is 0.
+    // The cuts of a section, unless one of them is 0. By index, as `none_zero` and `first_cuts` speak of indices.
     fn read(s: &[u8], section: Section) -> Option<Cuts>
         requires { (section.items + 2 * section.count ≤ length s.now) × (section.count ≤ 64) }
         ensures { MatchOption result (none_zero s.now section.items section.count ≡ false) (λ c. (none_zero s.now section.items section.count ≡ true) × (c ≡ first_cuts s.now section.items section.count)) }

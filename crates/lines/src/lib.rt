@@ -33,7 +33,7 @@ impl Line {
     }
 }
 
-// A space and a number, put at a place. Answers the place behind them.
+// A space and a number, put at a place. Answers the place behind them. No `Display`: `put` promises every byte, and answers how many there are.
 fn put_number(out: &mut [u8], at: usize, n: u64) -> usize
     requires { at + 21 ≤ length out.old }
     ensures text { take result out.new ≡ take at out.old ++ 32 ∷ decimal_of n }

@@ -7,6 +7,7 @@ use crate::Line;
 use arrayvec::ArrayVec;
 use streaming::{Fault, StreamError};
 
+// Document 01's numbers, a table: no order of the enum gives them.
 fn fault_number(f: Fault) -> u64
     ensures { result ≡ fault_number f }
 {

@@ -22,7 +22,7 @@ pub fn blank() -> ObjectRecord
     }
 }
 
-// The byte at a place; behind the source's end it is 0.
+// The byte at a place; behind the source's end it is 0, as in the definition (`get_or`).
 fn byte_at(src: &[u8], at: usize) -> u8
     ensures { result ≡ get_or src.now at 0 }
 {

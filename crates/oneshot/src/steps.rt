@@ -25,7 +25,7 @@ pub struct Visit {
     pub next: Cursor,
 }
 
-// The next chunk, if it lies in the source. Handle and location restart at 0.
+// The next chunk, if it lies in the source, else the cursor as it is, as its definition says. Handle and location restart at 0.
 fn opened(src: &[u8], c: Cursor) -> Cursor
     ensures { result ≡ opened_of src.now c }
 {

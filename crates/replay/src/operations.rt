@@ -11,7 +11,8 @@ fn state_size(s: &[u8]) -> Option<usize>
     (s.len() >= 157 && (1..=6).contains(&stage)).then_some(157)
 }
 
-// The bytes of the operation that begins s; none where it is malformed.
+// The bytes of the operation that begins s; none where it is malformed. An operation stays bytes: the contracts speak of them, and an enum would be one
+// layer more.
 #[tactic(auto, unfolding(crate::specs::Form::size_of, crate::specs::Form::is_bare, crate::specs::Form::feed_size))]
 pub fn size(s: &[u8]) -> Option<usize>
     ensures size { result ≡ size_of s.now }

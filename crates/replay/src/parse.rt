@@ -28,6 +28,7 @@ pub fn header(s: &[u8]) -> FlatHeader
     }
 }
 
+// 1 to 6, the replay form's own numbers, so no `TryFrom` of the stage's.
 #[tactic(auto, unfolding(crate::specs::Parse::stage_in))]
 fn stage(n: u8) -> Stage
     ensures { result ≡ stage_in n }

@@ -31,6 +31,7 @@ impl<'a> Source<'a> {
             return Err(misplaced);
         }
         let size = be16_at(self.bytes, chunk) as usize;
+        // 2,034 stands as a number, as the rules have it and the stage.
         if !((2 <= size) & (size <= 2034) & (chunk + size + 2 <= end)) {
             return Err(misplaced);
         }

@@ -20,6 +20,7 @@ fn sentinel_at(src: &[u8], part: u8, side: Side, at: usize) -> bool
     spells(part as usize, side, 0, &src[at..to])
 }
 
+// A part by its number, as the sentinels' table is picked; the frame's 38 bytes stand as a number, after which answers are named.
 // A section of so many bytes in all: its record, or the first of its fields that is at fault.
 pub fn section_at(
     src: &[u8],

@@ -1,4 +1,4 @@
-// Numbers and checksums of a source in hand, by their place.
+// Numbers and checksums of a source in hand, by their place. Two byte orders, as they have two definitions.
 ghost use Rattle.std.specs.Prelude.{◌≡◌, ◌+◌, ◌≤◌, length};
 ghost use Rattle.octets.specs.Octets.{little_endian, big_endian};
 ghost use Rattle.account.specs.Statement.{part};

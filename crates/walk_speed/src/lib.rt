@@ -11,7 +11,7 @@ use streaming::{
     Fed, FlatHeader, FlatWalker, Locator, NO_LOCATOR, ObjectRecord, Request, Step, StreamError,
 };
 
-// The size of the object that a step commits.
+// The size of the object that a step commits: a summand, so 0 for what commits none, as in its definition (`size_of` and `last_size` too).
 fn size_in(step: Step) -> u64
     ensures { (result ≡ size_in step) × (result < 2 ^ 32) }
 {
@@ -157,7 +157,7 @@ pub extern "C" fn survey_once(
     survey::survey(h, source).count as u64
 }
 
-// The size of the last of so many records, or 0: what is exported answers a number.
+// The size of the last of so many records, or 0. A list and a count, as in its definition.
 #[tactic(auto, unfolding(crate::specs::Sums::last_size))]
 fn last_size(list: &[ObjectRecord; 4096], count: usize) -> u64
     ensures { result ≡ last_size list.now count }
