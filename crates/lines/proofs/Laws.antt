@@ -1,6 +1,6 @@
 -- Laws of decimal text and of lines: the fewest digits are the text, and a line grows by one number.
 use Prim.Native.Nat.{ℕ, zero, suc, ◌+◌, ◌*◌, ◌-◌, ◌/◌, ◌%◌, ◌^◌, ◌≤◌, ◌<◌}
-use mathlib.Core.Path.{◌≡◌, sym, ap}
+use mathlib.Core.Path.{◌≡◌, refl, sym, ap}
 use mathlib.Core.List.{List, [], ◌∷◌, ◌++◌, append_assoc, append-nil}
 use lib.ListN.{length, take, get_or}
 use lib.Seq.{take-suc}
@@ -10,7 +10,9 @@ use native.Mathlib.Omega.{arith}
 use borrow.Author.Tests.{lt-ltb, le-ltb}
 use Rattle.io.specs.Digits.{hex_digit_ascii, last_digits, IsDigitCount}
 use Rattle.streaming.specs.Choose.{when◌then◌else◌}
-use Rattle.lines.specs.Line.{digits_in, decimal_of, spaced}
+use Rattle.streaming.specs.declared.Fault.{Fault}
+use Rattle.streaming.specs.declared.StreamError.TheVariants as error
+use Rattle.lines.specs.Line.{digits_in, decimal_of, spaced, fault_line, refusal_line}
 
 -- ---- decimal text
 
@@ -51,3 +53,9 @@ spaced-more (m ∷ ns) n = rw (spaced-more ns n) (ap (λ (l : List ℕ). 32 ∷ 
 
 pub spaced_next : (ns : List ℕ) (i : ℕ) → i < length ns → spaced (take (i + 1) ns) ≡ spaced (take i ns) ++ 32 ∷ decimal_of (get_or ns i 0)
 spaced_next ns i h = rw (add-one, take-suc ns i 0 h) (spaced-more (take i ns) (get_or ns i 0))
+
+-- ---- the line of a fault
+
+-- the line of a refusal that is a fault is the fault's own
+pub fault_said : (f : Fault) → refusal_line (error.Fault f) ≡ fault_line f
+fault_said f = refl

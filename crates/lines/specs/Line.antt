@@ -1,5 +1,5 @@
 -- A number as decimal text, and a line of output.
-use Rattle.std.specs.Prelude.{ℕ, zero, suc, ◌+◌, ◌/◌, ◌%◌, List, [], ◌∷◌, ◌++◌, ltb}
+use Rattle.std.specs.Prelude.{ℕ, zero, suc, ◌+◌, ◌/◌, ◌%◌, List, [], ◌∷◌, ◌++◌, take, ltb}
 use Rattle.streaming.specs.Choose.{when◌then◌else◌}
 use Rattle.streaming.specs.Numbers.{part_number, number_of, fields_of, fault_number, fault_fields}
 use Rattle.streaming.specs.declared.SectionRecord.{SectionRecord}
@@ -28,7 +28,7 @@ line_of letter numbers = letter ∷ spaced numbers ++ (10 ∷ [])
 
 -- the text of a line
 abbrev pub text_of : Line → List ℕ
-text_of l = line_of l.letter l.numbers.items
+text_of l = line_of l.letter (take l.count l.numbers)
 
 -- the line of a section, `S` part data_offset size, and of an object, `O` handle offset size type
 abbrev pub section_line : SectionRecord → List ℕ

@@ -9,16 +9,17 @@ ghost use Rattle.std.specs.Prelude.{◌+◌, ◌<◌, ◌≤◌, ◌≡◌, [], 
 ghost use Rattle.io.specs.Counts.{IsPrefixLen};
 ghost use Rattle.lines.specs.Line.{decimal_of, line_of, text_of};
 
-use arrayvec::ArrayVec;
 pub use output::{print, say};
 pub use records::{object, section};
 pub use refusals::{number, refusal};
 
-// What a line says. Its numbers lie in the line itself, so that to make one can't fail for want of memory: no line has more than seven.
-#[derive(Drop)]
+// What a line says: its letter, and the first `count` of the numbers. They lie in the line itself, so that to make one can't fail for want of memory; an
+// `ArrayVec` would not be `Copy`.
+#[derive(Clone, Copy)]
 pub struct Line {
     pub letter: u8,
-    pub numbers: ArrayVec<u64, 7>,
+    pub count: usize,
+    pub numbers: [u64; 7],
 }
 
 impl Line {
@@ -26,9 +27,12 @@ impl Line {
         requires { length numbers.now ≤ 7 }
         ensures { text_of result ≡ line_of letter numbers.now }
     {
+        let mut all = [0; 7];
+        all[..numbers.len()].copy_from_slice(numbers);
         Line {
             letter,
-            numbers: ArrayVec::try_from(numbers).unwrap(),
+            count: numbers.len(),
+            numbers: all,
         }
     }
 }
@@ -56,7 +60,7 @@ pub fn put(line: Line, out: &mut [u8]) -> usize
 {
     out[0] = line.letter;
     let mut at = 1;
-    for n in line.numbers.as_slice() {
+    for n in &line.numbers[..line.count.min(7)] {
         at = put_number(out, at, *n);
     }
     out[at] = b'\n';

@@ -1,4 +1,6 @@
 // Lines on standard output.
+ghost use Rattle.std.specs.Prelude.{◌≡◌, None, Ok};
+
 use crate::{Line, put};
 use std::io;
 use std::io::Write;
@@ -11,7 +13,9 @@ pub fn print(rt: &impl Print, line: Line) -> io::Result<()> {
 }
 
 // Writes the line, if there is one.
-pub fn say(rt: &impl Print, line: Option<Line>) -> io::Result<()> {
+pub fn say(rt: &impl Print, line: Option<Line>) -> io::Result<()>
+    ensures { line ≡ None → result ≡ Ok tt }
+{
     match line {
         Some(line) => print(rt, line),
         None => Ok(()),

@@ -95,11 +95,8 @@ fn fields(e: StreamError) -> ArrayVec<u64, 3>
 pub fn refusal(e: StreamError) -> Line
     ensures { text_of result ≡ refusal_line e }
 {
-    let mut numbers = ArrayVec::new();
+    let mut numbers: ArrayVec<u64, 4> = ArrayVec::new();
     numbers.push(number(e));
     numbers.try_extend_from_slice(fields(e).as_slice()).unwrap();
-    Line {
-        letter: b'X',
-        numbers,
-    }
+    Line::new(b'X', numbers.as_slice())
 }
