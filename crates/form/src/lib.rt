@@ -5,27 +5,31 @@ ghost use Rattle.std.specs.Prelude.{◌≡◌, ◌+◌, ◌*◌, ◌<◌, ◌≤
 ghost use Rattle.form.specs.Cutting.{Cutting};
 ghost use Rattle.form.specs.Form.{number_at, count_at, stands, Found, none_zero, first_cuts, is_form, locator_at, locator_in, locators_in, form_of, Given};
 
-use arrayvec::ArrayVec;
 use octets::array_at;
 use std::array;
 use std::marker::Model;
 use streaming::{FlatHeader, Locator, NO_LOCATOR};
 
-// The sizes at which demands are cut, in turn: at most 64, and none of them is 0.
-#[derive(Drop)]
+// The sizes at which demands are cut, in turn: at most 64, and none of them is 0. Behind them the array holds 0, so that the list of them gives the whole value back, which `Copy` asks for.
+#[derive(Clone, Copy)]
 pub struct Cuts {
-    sizes: ArrayVec<u16, 64>,
+    count: usize,
+    sizes: [u16; 64],
 }
 
 impl Model for Cuts {
-    ghost use Rattle.std.specs.Prelude.{ℕ, List};
-    ghost use Rattle.form.specs.Cutting.{Cutting};
+    ghost use Rattle.std.specs.Prelude.{ℕ, List, length, take};
+    ghost use Rattle.form.specs.Cutting.{in_room, Laid};
 
     ghost Value = { List ℕ };
 
-    ghost view = { λ c. c.sizes.items };
+    ghost view = { λ c. take c.count c.sizes };
 
-    ghost invariant = { λ c. Cutting c.sizes.items };
+    ghost invariant = { λ c. Laid c.count c.sizes };
+
+    ghost inverse = { λ l. record { count = length l; sizes = in_room l } };
+
+    ghost inverse_ok = { λ c h i. record { count = h.counted i; sizes = h.blank i } };
 }
 
 impl Cuts {
@@ -34,7 +38,7 @@ impl Cuts {
         ensures count { result ≡ length self.now }
         ensures cutting { Cutting self.now }
     {
-        self.sizes.len()
+        self.count
     }
 
     // The cut of an index, if there is one.
@@ -42,7 +46,7 @@ impl Cuts {
         ensures cut { result ≡ slice_get self.now i }
         ensures some { IfSome result (λ size. 0 < size) }
     {
-        self.sizes.as_slice().get(i).copied()
+        self.sizes[..self.len()].get(i).copied()
     }
 
     // The cuts of a section, unless one of them is 0. By index, as `none_zero` and `first_cuts` speak of indices.
@@ -50,20 +54,23 @@ impl Cuts {
         requires { (section.items + 2 * section.count ≤ length s.now) × (section.count ≤ 64) }
         ensures { MatchOption result (none_zero s.now section.items section.count ≡ false) (λ c. (none_zero s.now section.items section.count ≡ true) × (c ≡ first_cuts s.now section.items section.count)) }
     {
-        let mut sizes = ArrayVec::new();
+        let mut sizes = [0; 64];
         for i in 0..section.count {
             let size = u16::from_le_bytes(array_at(s, section.items + 2 * i));
             if size == 0 {
                 return None;
             }
-            sizes.push(size);
+            sizes[i] = size;
         }
-        Some(Cuts { sizes })
+        Some(Cuts {
+            count: section.count,
+            sizes,
+        })
     }
 }
 
 // What an input in the form says: the header, the cuts, and the place at which the source's bytes begin.
-#[derive(Drop)]
+#[derive(Clone, Copy)]
 pub struct Form {
     pub header: FlatHeader,
     pub cuts: Cuts,
