@@ -1,11 +1,33 @@
 // The driver on a list of inputs, one after another, each behind its length: what it prints for each, and a line `-` behind it.
 #![tactic(auto)]
 
-ghost use Rattle.std.specs.Prelude.{◌≡◌, ◌≤◌, length, IfSome};
+ghost use Rattle.std.specs.Prelude.{◌≡◌, ◌≤◌, length, IfOk, IfSome};
 ghost use Rattle.drive_cases.specs.Cases.{case_size};
 
 use std::io;
 use std::io::Read;
+
+// The bytes of the input. They lie on the stack, and not in a `Vec` as in the other programs: to read them can't fail for want of memory.
+fn buffer() -> [u8; 200000]
+    ensures { 200000 ≡ length result }
+{
+    [0; 200000]
+}
+
+// Reads until s is full or the input has ended. Answers how many bytes of s are read.
+fn read_full(from: &mut impl Read, s: &mut [u8]) -> io::Result<usize>
+    ensures { IfOk result (λ n. n ≤ length s.new) }
+{
+    let mut n = 0;
+    while n < s.len() {
+        let more = from.read(&mut s[n..])?;
+        if more == 0 {
+            break;
+        }
+        n += more;
+    }
+    Ok(n)
+}
 
 // The bytes of the case that begins s, its length included. None where the list is cut short.
 #[tactic(auto, unfolding(crate::specs::Cases::case_size))]
@@ -28,8 +50,7 @@ fn cases(rt: &impl Print, list: &[u8]) -> io::Result<()> {
 }
 
 fn main(rt: HostRuntime) -> io::Result<()> {
-    // Two lines of the library's, in each program: a crate for them would be no plainer.
-    let mut input = Vec::new(rt.alloc());
-    rt.reader().take(200000).read_to_end(&mut input)?;
-    cases(&rt, &input)
+    let mut input = buffer();
+    let n = read_full(&mut rt.reader(), &mut input)?;
+    cases(&rt, &input[..n])
 }
