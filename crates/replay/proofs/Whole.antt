@@ -1,8 +1,10 @@
--- Laws of `is_whole`: what is left of a list behind the operations that were gone past.
-use Rattle.std.proofs.Common.{◌≡◌, refl, sym, ◌∙◌, ℕ, zero, suc, ◌-◌, ◌<◌, ◌≤◌, Bool, true, false, List, length, take, drop, length-drop, arith, ne_eqb}
+-- Laws of `is_whole`: more steps than bytes change nothing, and what is left of a list behind the operations that were gone past.
+use Rattle.std.proofs.Common.{◌≡◌, refl, sym, ◌∙◌, ℕ, zero, suc, ◌-◌, ◌<◌, ◌≤◌, Bool, true, false, List, length, take, drop, length-drop, arith, eq-eqb, ne_eqb}
+use Rattle.std.proofs.lemmas.Grind.{common_steps}
 use lib.Seq.{take_all}
-use Rattle.std.specs.Prelude.{Some, None, eqb, if◌then◌else◌}
-use Rattle.replay.specs.Form.{size_of, is_whole}
+use Rattle.std.specs.Prelude.{Option, Some, None, eqb, if◌then◌else◌}
+use Rattle.octets.specs.Octets.{counted_size}
+use Rattle.replay.specs.Form.{is_bare, state_size, feed_size, size_of, is_whole}
 
 whole_one : (k n : ℕ) (s : List ℕ) → size_of s ≡ Some n → 0 < length s → is_whole (suc k) s ≡ is_whole k (drop n s)
 unfolding is_whole
@@ -16,6 +18,28 @@ whole_none : (k : ℕ) (s : List ℕ) → size_of s ≡ None → is_whole k s �
 unfolding is_whole
 whole_none zero s e = refl
 whole_none (suc k) s e = rw e (either (eqb (length s) 0))
+
+none_there : (s : List ℕ) → length s ≡ 0 → size_of s ≡ None
+unfolding size_of
+none_there s e = rw (eq-eqb (length s) 0 e)
+
+-- no operation is empty
+some_bytes : (s : List ℕ) (n : ℕ) → size_of s ≡ Some n → (0 < n) × (0 < length s)
+unfolding size_of is_bare state_size feed_size counted_size
+some_bytes s n e = grind (arith, common_steps)
+
+-- so as many steps as bytes are enough
+pub enough : (a b : ℕ) (s : List ℕ) → length s ≤ a → length s ≤ b → is_whole a s ≡ is_whole b s
+enough zero b s ha hb = let e = none_there s (omega arith) in whole_none zero s e ∙ sym (whole_none b s e)
+enough (suc a) zero s ha hb = let e = none_there s (omega arith) in whole_none (suc a) s e ∙ sym (whole_none zero s e)
+enough (suc a) (suc b) s ha hb = step (size_of s) refl λ n. enough a b (drop n s)
+  where
+    step : (o : Option ℕ) → size_of s ≡ o → ((n : ℕ) → length (drop n s) ≤ a → length (drop n s) ≤ b → is_whole a (drop n s) ≡ is_whole b (drop n s))
+        → is_whole (suc a) s ≡ is_whole (suc b) s
+    step None e rest = whole_none (suc a) s e ∙ sym (whole_none (suc b) s e)
+    step (Some n) e rest =
+        let some = some_bytes s n e in
+        whole_one a n s e some.1 ∙ rest n (simp length-drop (omega (arith, some.0))) (simp length-drop (omega (arith, some.0))) ∙ sym (whole_one b n s e some.1)
 
 -- the rest of a list, and a number of steps that are enough for it
 pub record Left (s rest : List ℕ) : Type 0 where

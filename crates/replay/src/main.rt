@@ -14,7 +14,7 @@ use std::io::Read;
 const INPUT_MOST: usize = 60000;
 
 fn answers(rt: &impl Print, input: &[u8]) -> io::Result<()> {
-    let mut hand = None;
+    let mut hand = answer::empty_hand();
     let mut rest = input;
     while let Some(n) = operations::size(rest) {
         let Answered { line, hand: next } = answer::answer(hand, rest);
