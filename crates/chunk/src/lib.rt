@@ -126,6 +126,8 @@ impl Unit for Chunk {
 
     ghost walker = { λ unit. unit.walker };
 
+    // Inlined, so that the state is not copied for the answer.
+    #[inline(always)]
     fn of(s: FlatWalker) -> Option<Self> {
         if fit_chunk(s) {
             return Some(Chunk { walker: s });

@@ -27,6 +27,8 @@ impl Unit for Entry {
 
     ghost walker = { λ unit. unit.walker };
 
+    // Inlined, so that the state is not copied for the answer.
+    #[inline(always)]
     fn of(s: FlatWalker) -> Option<Self> {
         if fit_entry(s) {
             return Some(Entry { walker: s });

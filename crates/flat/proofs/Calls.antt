@@ -1,16 +1,16 @@
 -- What each call's answer comes to, over plain values: the test of fitness, and the demand's own refusals.
-use Rattle.std.specs.Prelude.{Ok, Err, Some}
+use Rattle.std.specs.Prelude.{Ok, Err, Some, None}
 use Prim.Native.Nat.{ℕ}
 use mathlib.Core.Bool.{Bool, true, false, ◌&&◌}
 use mathlib.Core.List.{List}
-use mathlib.Core.Path.{◌≡◌, refl}
+use mathlib.Core.Path.{◌≡◌, refl, sym, ap}
 use lib.ListN.{length}
 use lib.Dec.{ltb, leb, eqb}
 use Rattle.streaming.specs.Choose.{when◌then◌else◌}
 use Rattle.streaming.specs.State.{refused_by}
 use Rattle.streaming.specs.declared.Request.{Request}
 use Rattle.streaming.specs.declared.StreamError.TheVariants as error
-use Rattle.streaming.specs.Answers.{Ended}
+use Rattle.streaming.specs.Answers.{Ended, Failure}
 use Rattle.streaming.specs.declared.Stage.{Stage}
 use Rattle.streaming.specs.declared.Stage.TheVariants as stage
 use Rattle.streaming.specs.declared.FlatWalker.{FlatWalker}
@@ -19,8 +19,8 @@ use Rattle.section.specs.Section.{request_section}
 use Rattle.chunk.specs.Chunk.{request_chunk}
 use Rattle.entry.specs.Entry.{request_entry}
 use Rattle.object.specs.Object.{request_object}
-use Rattle.flat.specs.Fit.{fit_at}
-use Rattle.flat.specs.Flat.{asked_if, request_at, offered_to, offered_by, feed_at}
+use Rattle.flat.specs.Fit.{fit_at, fit_of}
+use Rattle.flat.specs.Flat.{asked_if, request_at, request_in, request_of, offered_to, offered_by, feed_at}
 use Rattle.flat.specs.Offer.{offer_of, fed_if, fed_at}
 
 -- ---- what a piece does
@@ -41,6 +41,18 @@ offered_by_offer r s offset piece taken = both (eqb offset r.offset) (ltb 0 (len
     both true true = refl
     both true false = refl
     both false b = refl
+
+-- the same from the other side
+pub offered_by_lem : (r : Request) (s : FlatWalker) (offset : ℕ) (piece : List ℕ) (taken : Fed)
+    → by_offer (offer_of r offset (length piece)) s taken ≡ offered_to r s offset piece taken
+offered_by_lem r s offset piece taken = sym (offered_by_offer r s offset piece taken)
+
+-- ---- what is asked for
+
+-- where no failure is held, a demand is asked for by the stage, if the state is fit
+pub requested_none : (s : FlatWalker) → s.failure ≡ None → request_of s ≡ asked_if (fit_of s) (request_at s.stage s)
+unfolding request_of
+requested_none s e = ap (λ (w : Failure). request_in w s) e
 
 -- ---- by the stage
 

@@ -3,8 +3,8 @@ use Rattle.std.specs.Prelude.{Ok, Err, Some}
 use Prim.Native.Nat.{ℕ, ◌+◌, ◌≤◌, ◌<◌}
 use mathlib.Core.Bool.{true, false}
 use mathlib.Core.List.{List}
-use mathlib.Core.Option.{none}
-use mathlib.Core.Path.{◌≡◌}
+use mathlib.Core.Option.{Option, none}
+use mathlib.Core.Path.{◌≡◌, ap}
 use lib.ListN.{length}
 use Rattle.streaming.specs.State.{refused_by}
 use Rattle.streaming.specs.declared.FlatHeader.{FlatHeader}
@@ -18,7 +18,7 @@ use Rattle.account.specs.Statement.{Call}
 use Rattle.rules.specs.Header.{start_refusal}
 use Rattle.object.specs.Fit.{size_in_words}
 use Rattle.flat.specs.Fit.{is_sound, fit_of, consistent_of}
-use Rattle.flat.specs.Flat.{begun_of, request_at, request_of, end_of, feed_at, feed_of}
+use Rattle.flat.specs.Flat.{begun_of, started, start_of, request_at, request_of, end_of, feed_at, feed_of}
 use Rattle.flat.proofs.Keeping.{Keeps}
 use Rattle.flat.proofs.KeepingCalls.{walked}
 use Rattle.flat.proofs.KeepingCalls as K
@@ -27,6 +27,13 @@ use Rattle.flat.proofs.Saved.{oversized, eight_bytes, nine_bytes}
 use Rattle.flat.proofs.Saved as S
 use Rattle.flat.proofs.Demands.{SecondWord, InPlace}
 use Rattle.flat.proofs.Demands as D
+
+-- ---- the beginning
+
+-- Where Start takes the header, `start` answers the very walk that the laws below and the theorems of crate `stands` begin with.
+pub start_begins : (h : FlatHeader) → start_refusal h ≡ none → start_of h ≡ Ok (begun_of h)
+unfolding start_of
+start_begins h starts = ap (λ (r : Option StreamError). started r (begun_of h)) starts
 
 -- ---- fitness: `Keeps t` says that t is fit, unless it holds a failure
 

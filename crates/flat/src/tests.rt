@@ -5,7 +5,8 @@ ghost use Rattle.flat.specs.Fit.{is_taken, fit_at, consistent_at};
 
 use streaming::{FlatHeader, FlatWalker, Stage};
 
-// Whether Start takes the header.
+// Whether Start takes the header. Inlined, so that the header is read where it stands.
+#[inline(always)]
 pub fn is_taken(h: FlatHeader) -> bool
     ensures { result ≡ is_taken (start_refusal h) }
 {

@@ -9,7 +9,7 @@ use Rattle.streaming.specs.Choose.{when◌then◌else◌}
 use Rattle.rules.specs.Header.{first_of}
 use Rattle.streaming.specs.declared.Locator.{Locator}
 
-abbrev missing : Locator
+abbrev pub missing : Locator
 missing = record { number = 0; offset = 0; size = 0 }
 
 pub first_found : (n : ℕ) (ls : List Locator) → unwrap_or (find (λ l. eqb l.number n) ls) missing ≡ first_of n ls

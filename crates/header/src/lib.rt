@@ -50,6 +50,7 @@ pub fn is_r2000(h: FlatHeader) -> bool
 
 // Whether a locator's bytes end behind the source.
 #[tactic(auto, unfolding(rules::specs::Header::is_outside))]
+#[inline(always)]
 fn is_outside(h: FlatHeader, number: u8) -> bool
     ensures { result ≡ is_outside h number }
 {
@@ -57,7 +58,8 @@ fn is_outside(h: FlatHeader, number: u8) -> bool
     h.length < l.offset as u64 + l.size as u64
 }
 
-// Whether Start takes the header: refusals 1 and 2.
+// Whether Start takes the header: refusals 1 and 2. Inlined, since each call of a walk asks it again.
+#[inline(always)]
 pub fn start_answer(h: FlatHeader) -> Result<(), StreamError>
     ensures { result ≡ start_answer (start_refusal h) }
 {

@@ -44,7 +44,7 @@ entry_shown : (s : FlatWalker) → behind_entry s ≡ true → Entry s
 unfolding behind_entry
 entry_shown s e = search shown
 
-entry_shows_near : (s : FlatWalker) → behind_entry s ≡ true → s.object < 2 ^ 63
+pub entry_shows_near : (s : FlatWalker) → behind_entry s ≡ true → s.object < 2 ^ 63
 entry_shows_near s e = omega (arith, (entry_shown s e).near)
 
 -- ---- the whole

@@ -40,6 +40,8 @@ impl Unit for Object {
 
     ghost walker = { λ unit. unit.walker };
 
+    // Inlined, so that the state is not copied for the answer.
+    #[inline(always)]
     fn of(s: FlatWalker) -> Option<Self> {
         if fit::fit_object(s) {
             return Some(Object { walker: s });

@@ -91,6 +91,8 @@ impl Unit for Section {
 
     ghost walker = { λ unit. unit.walker };
 
+    // Inlined, so that the state is not copied for the answer.
+    #[inline(always)]
     fn of(s: FlatWalker) -> Option<Self> {
         if fit_section(s) {
             return Some(Section { walker: s });
