@@ -45,11 +45,21 @@ fn is_mark(r: ObjectRecord) -> bool
     r == MARK
 }
 
-// How many places hold the mark, from a place on up to the first that does not.
+// How many places hold the mark, up to the first that does not.
+fn run_of_marks(list: &[ObjectRecord]) -> usize
+    ensures { result ≡ length (take_while is_mark list.now) }
+{
+    list.iter().take_while(|r| is_mark(**r)).count()
+}
+
+// The same from a place on. `get` is at the place at once, where `skip` would go over those before it one by one.
 fn marked_from(list: &[ObjectRecord], at: usize) -> usize
     ensures { result ≡ length (take_while is_mark (drop at list.now)) }
 {
-    list.iter().skip(at).take_while(|r| is_mark(**r)).count()
+    match list.get(at..) {
+        Some(rest) => run_of_marks(rest),
+        None => 0,
+    }
 }
 
 // The first place from a place on that does not hold the mark; behind the list's end there is none that does.

@@ -157,10 +157,10 @@ pub extern "C" fn survey_once(
     survey::survey(h, source).count as u64
 }
 
-// The size of the last of so many records, or 0. A list and a count, as in its definition.
+// The size of the last of so many records, or 0. A list and a count, as in its definition. The list comes by value: lent, it would lie on the stack once more.
 #[tactic(auto, unfolding(crate::specs::Sums::last_size))]
-fn last_size(list: &[ObjectRecord; 4096], count: usize) -> u64
-    ensures { result ≡ last_size list.now count }
+fn last_size(list: [ObjectRecord; 4096], count: usize) -> u64
+    ensures { result ≡ last_size list count }
 {
     let Some(last) = count.checked_sub(1) else {
         return 0;
@@ -194,5 +194,5 @@ pub extern "C" fn fill_once(
         map_size,
     );
     let listed = listing::fill(h, source, 4096);
-    last_size(&listed.list, listed.walked.count)
+    last_size(listed.list, listed.walked.count)
 }
