@@ -86,7 +86,7 @@ further_is at n =
     (λ e. let near = ltb-false (2 ^ 64 - 1) (at + n) e in min-eq_left (omega arith))
 
 -- n bits that are there make a number below 2^n
-number_lt : (bytes : List ℕ) (at n : ℕ) → number (taken_at bytes at n) < 2 ^ n
+pub number_lt : (bytes : List ℕ) (at n : ℕ) → number (taken_at bytes at n) < 2 ^ n
 unfolding taken_at
 number_lt bytes at n = in_both (λ t. number t < 2 ^ n) _ (λ e. bits_lt bytes at n) (λ e. pow_pos n)
 

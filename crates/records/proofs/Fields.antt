@@ -1,4 +1,4 @@
--- The fields of a prologue, taken one by one, make the prologue of the rules. The rules stop at the first field that is missing; here the handle is looked for in any case, and is missing too.
+-- The fields of a prologue, taken one by one, make the prologue of the rules. The rules and `prologue` stop at the first field that is missing; `prologue_read` looks for the handle in any case, and where a field before it is missing it is too (`cut_short`).
 use mathlib.Core.Path.{◌≡◌, refl, sym, ◌∙◌, ap}
 use mathlib.Core.Bool.{Bool, true, false}
 use mathlib.Core.List.{List}

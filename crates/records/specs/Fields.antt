@@ -1,4 +1,4 @@
--- The fields of a prologue as `prologue` reads them: how many bits each has, and what they make together.
+-- The fields of a prologue: how many bits each has, and what they make together where the handle is there.
 use Rattle.std.specs.Prelude.{ℕ, ◌+◌, ◌*◌, ◌/◌, ◌%◌, Bool, eqb, Option, Some, None}
 use Rattle.streaming.specs.Choose.{when◌then◌else◌}
 use Rattle.records.specs.declared.Opening.{Opening}

@@ -1,7 +1,8 @@
 -- Laws of what is left of a walk: at a chunk, at an entry of it, and how an object is counted.
 use Rattle.std.specs.Prelude.{Ok, Err}
-use Prim.Native.Nat.{ℕ, zero, suc, ◌+◌, ◌-◌, ◌≤◌, ◌<◌}
+use Prim.Native.Nat.{ℕ, zero, suc, ◌+◌, ◌-◌, ◌^◌, ◌≤◌, ◌<◌}
 use mathlib.Core.List.{List}
+use mathlib.Core.Option.{Option, none, some}
 use mathlib.Core.Path.{◌≡◌, refl, sym, ap, ap₂, ◌∙◌}
 use native.Mathlib.Omega.{arith}
 use lib.ListN.{length, drop}
@@ -11,14 +12,15 @@ use Rattle.streaming.specs.declared.FlatHeader.{FlatHeader}
 use Rattle.streaming.specs.declared.ObjectRecord.{ObjectRecord}
 use Rattle.streaming.specs.Answers.{Asked, Ended}
 use Rattle.streaming.specs.declared.Fault.TheVariants as fault
+use Rattle.streaming.proofs.Choose.{in_both}
 use Rattle.account.specs.Statement.{part, ended_by}
 use Rattle.account.specs.Account.{broken}
 use Rattle.account.proofs.Parts.{length_part, part-drop}
 use Rattle.rules.specs.Header.{map_start, map_size, map_end}
-use Rattle.rules.specs.Entry.{Entry, leads, refused, entry_in, followed, entries_from}
+use Rattle.rules.specs.Entry.{Entry, leads, refused, moved, entry_at, with_location, with_handle, location_delta, entry_in, followed, entries_from}
 use Rattle.rules.specs.Map.{chunk_size, chunk_entries}
 use Rattle.rules.specs.PlainList.{Listing, stop, first, require, object_then, entries_then, chunk_then, chunks_from}
-use Rattle.rules.proofs.Entry.{Fits, entry_fits, entries_cons}
+use Rattle.rules.proofs.Entry.{Fits, entry_fits, Near, moved-near, entries_cons}
 use Rattle.rules.proofs.Enough.{entries_settle, plain_settle}
 use Rattle.survey.specs.Survey.{objects_of}
 use Rattle.survey.specs.Counting.{counted, more, chunks_on, entries_on}
@@ -70,6 +72,27 @@ leads-told (refused b) l e = cc
 pub refused-told : (e : Entry) (bytes : ℕ) → Err bytes ≡ entry_read e → e ≡ refused bytes
 refused-told (leads b m l) bytes e = cc
 refused-told (refused b) bytes e = cc
+
+-- a location stays below 2^63
+abbrev pub NearEntry : Entry → Type 0
+NearEntry (leads bytes handle location) = location < 2 ^ 63
+NearEntry (refused bytes) = Unit {0}
+
+near_at : (n handle : ℕ) (o : Option ℕ) → Near o → NearEntry (entry_at n handle o)
+unfolding entry_at
+near_at n handle none h = tt
+near_at n handle (some location) h = h
+
+near-location : (n handle location : ℕ) (bytes : List ℕ) (o : Option (List ℕ)) → location < 2 ^ 63 → NearEntry (with_location n handle location bytes o)
+unfolding with_location
+near-location n handle location bytes none h = tt
+near-location n handle location bytes (some groups) h =
+    near_at (n + length groups) handle (moved location (location_delta groups)) (moved-near location (location_delta groups) h)
+
+pub near-handle : (handle location : ℕ) (bytes : List ℕ) (o : Option (List ℕ)) → location < 2 ^ 63 → NearEntry (with_handle handle location bytes o)
+unfolding with_handle
+near-handle handle location bytes none h = tt
+near-handle handle location bytes (some groups) h = in_both NearEntry _ (λ e. near-location (length groups) _ location _ _ h) (λ e. tt)
 
 module _ (h : FlatHeader) (src : List ℕ) (end : ℕ) (c : Cursor) (in-chunk : c.at < end) (inside : end ≤ length src) where
   abbrev bytes : List ℕ
