@@ -13,8 +13,7 @@ pub use output::{print, say};
 pub use records::{object, section};
 pub use refusals::{number, refusal};
 
-// What a line says: its letter, and the first `count` of the numbers. They lie in the line itself, so that to make one can't fail for want of memory; an
-// `ArrayVec` would not be `Copy`.
+// What a line says: its letter, and the first `count` of the numbers. They lie in the line itself, so that to make one can't fail for want of memory. An `ArrayVec` would not be `Copy`.
 #[derive(Clone, Copy)]
 pub struct Line {
     pub letter: u8,
@@ -60,6 +59,7 @@ pub fn put(line: Line, out: &mut [u8]) -> usize
 {
     out[0] = line.letter;
     let mut at = 1;
+    // A line may say that it has more: then all seven are put.
     for n in &line.numbers[..line.count.min(7)] {
         at = put_number(out, at, *n);
     }
